@@ -1,0 +1,124 @@
+// The classes by name, and each question that the rules ask of a class: one function for each test
+// of the definitions, so that no other code looks at a class number.
+ghost use mathlib.Core.Path.{_≡_};
+ghost use Rattle.rules.specs.Classes.{isUnknown, isParagraphEnd, isOpening, isRemoved, isStrong, isNeutral, isSeparator, isBlank};
+
+pub const L: u8 = 0;
+
+pub const LRE: u8 = 1;
+
+pub const LRO: u8 = 2;
+
+pub const R: u8 = 3;
+
+pub const AL: u8 = 4;
+
+pub const RLE: u8 = 5;
+
+pub const RLO: u8 = 6;
+
+pub const PDF: u8 = 7;
+
+pub const EN: u8 = 8;
+
+pub const ES: u8 = 9;
+
+pub const ET: u8 = 10;
+
+pub const AN: u8 = 11;
+
+pub const CS: u8 = 12;
+
+pub const NSM: u8 = 13;
+
+pub const BN: u8 = 14;
+
+pub const B: u8 = 15;
+
+pub const S: u8 = 16;
+
+pub const WS: u8 = 17;
+
+pub const ON: u8 = 18;
+
+// A number above the highest class is no class.
+pub fn is_unknown(c: u8) -> bool
+    ensures { λ r. ⌜ r ≡ isUnknown c ⌝ }
+{
+    ON < c
+}
+
+pub fn is_paragraph_end(c: u8) -> bool
+    ensures { λ r. ⌜ r ≡ isParagraphEnd c ⌝ }
+{
+    c == B
+}
+
+pub fn is_opening(c: u8) -> bool
+    ensures { λ r. ⌜ r ≡ isOpening c ⌝ }
+{
+    if c == LRE {
+        return true;
+    }
+    if c == LRO {
+        return true;
+    }
+    if c == RLE {
+        return true;
+    }
+    c == RLO
+}
+
+pub fn is_removed(c: u8) -> bool
+    ensures { λ r. ⌜ r ≡ isRemoved c ⌝ }
+{
+    if is_opening(c) {
+        return true;
+    }
+    if c == PDF {
+        return true;
+    }
+    c == BN
+}
+
+pub fn is_strong(c: u8) -> bool
+    ensures { λ r. ⌜ r ≡ isStrong c ⌝ }
+{
+    if c == L {
+        return true;
+    }
+    if c == R {
+        return true;
+    }
+    c == AL
+}
+
+pub fn is_neutral(c: u8) -> bool
+    ensures { λ r. ⌜ r ≡ isNeutral c ⌝ }
+{
+    if is_paragraph_end(c) {
+        return true;
+    }
+    if c == S {
+        return true;
+    }
+    if c == WS {
+        return true;
+    }
+    c == ON
+}
+
+pub fn is_separator(c: u8) -> bool
+    ensures { λ r. ⌜ r ≡ isSeparator c ⌝ }
+{
+    if c == S {
+        return true;
+    }
+    is_paragraph_end(c)
+}
+
+pub fn is_blank(c: u8) -> bool
+    ensures { λ r. ⌜ r ≡ isBlank c ⌝ }
+{
+    c == WS
+}

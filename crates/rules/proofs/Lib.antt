@@ -1,0 +1,3 @@
+-- Laws that every crate above cites.
+pub mod Tests
+pub mod Lists

@@ -1,0 +1,69 @@
+-- The five jobs: what each answers, and what it leaves in the buffer that it is lent.
+use Prim.Native.Nat.{ℕ}
+use mathlib.Core.List.{List, [], _++_}
+use lib.ListN.{length, drop}
+use Rattle.rules.specs.Paragraph.{P1, baseByText, baseOf}
+use Rattle.rules.specs.Explicit.{X1, explicitLevels}
+use Rattle.rules.specs.Resolve.{resolvedLevels}
+use Rattle.rules.specs.Line.{lineOrder, allOrders}
+use Rattle.rules.specs.Refusals.{Check, sound, refuse, checksOfCut, checksOfBase, checksOfLevels, checksOfLine, checksOfLines}
+
+-- a job accepts and answers a value, or refuses with a number and a place
+pub data Answer : Type 0 where
+  accepted : ℕ → Answer
+  refused : ℕ → ℕ → Answer
+
+-- the value where the checks find nothing wrong, else their refusal
+abbrev pub answered : Check → ℕ → Answer
+answered sound value = accepted value
+answered (refuse number place) value = refused number place
+
+-- the first list where the checks find nothing wrong, else the second
+abbrev pub whereSound : Check → List ℕ → List ℕ → List ℕ
+whereSound sound xs ys = xs
+whereSound (refuse number place) xs ys = ys
+
+-- a buffer whose first places are written, and all after them as it was
+abbrev pub over : List ℕ → List ℕ → List ℕ
+over written buffer = written ++ drop (length written) buffer
+
+-- Cut: the first paragraph's length; and the paragraph itself, empty where it is refused
+unfoldable pub cutAnswer : List ℕ → Answer
+cutAnswer cs = answered (checksOfCut cs) (length (P1 cs))
+
+unfoldable pub cutPart : List ℕ → List ℕ
+cutPart cs = whereSound (checksOfCut cs) (P1 cs) []
+
+-- Base
+unfoldable pub baseAnswer : List ℕ → Answer
+baseAnswer cs = answered (checksOfBase cs) (baseByText cs)
+
+-- Explicit and Resolve answer the base level used, and write a level for each position
+unfoldable pub levelsAnswer : List ℕ → ℕ → List ℕ → Answer
+levelsAnswer cs request levels = answered (checksOfLevels cs request levels) (baseOf request cs)
+
+unfoldable pub explicitBuffer : List ℕ → ℕ → List ℕ → List ℕ
+explicitBuffer cs request levels =
+    let base = baseOf request cs in
+    whereSound (checksOfLevels cs request levels) (over (explicitLevels base (X1 base) cs) levels) levels
+
+unfoldable pub resolveBuffer : List ℕ → ℕ → List ℕ → List ℕ
+resolveBuffer cs request levels =
+    whereSound (checksOfLevels cs request levels) (over (resolvedLevels (baseOf request cs) cs) levels) levels
+
+-- Order answers how many positions it ordered, and writes them from left to right
+unfoldable pub lineAnswer : List ℕ → List ℕ → ℕ → ℕ → ℕ → List ℕ → Answer
+lineAnswer cs levels base from to order =
+    answered (checksOfLine cs levels base from to order) (length (lineOrder base cs levels from to))
+
+unfoldable pub lineBuffer : List ℕ → List ℕ → ℕ → ℕ → ℕ → List ℕ → List ℕ
+lineBuffer cs levels base from to order =
+    whereSound (checksOfLine cs levels base from to order) (over (lineOrder base cs levels from to) order) order
+
+unfoldable pub linesAnswer : List ℕ → List ℕ → ℕ → List ℕ → List ℕ → Answer
+linesAnswer cs levels base ends order =
+    answered (checksOfLines cs levels base ends order) (length (allOrders base cs levels 0 ends))
+
+unfoldable pub linesBuffer : List ℕ → List ℕ → ℕ → List ℕ → List ℕ → List ℕ
+linesBuffer cs levels base ends order =
+    whereSound (checksOfLines cs levels base ends order) (over (allOrders base cs levels 0 ends) order) order

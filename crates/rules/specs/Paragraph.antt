@@ -1,0 +1,30 @@
+-- Paragraphs and the base level: rules P1 to P3.
+use Prim.Native.Nat.{ℕ}
+use mathlib.Core.Bool.{Bool, _||_}
+use mathlib.Core.List.{List, [], _∷_}
+use mathlib.Core.Option.{Option, none, some}
+use lib.Dec.{eqb}
+use Rattle.rules.specs.Choice.{if_then_else_}
+use Rattle.rules.specs.Classes.{R, AL, isParagraphEnd, isStrong}
+
+-- P1: the first paragraph ends after the first separator, which it keeps, or at the end of the text
+unfoldable pub P1 : List ℕ → List ℕ
+P1 [] = []
+P1 (c ∷ cs) = if isParagraphEnd c then c ∷ [] else c ∷ P1 cs
+
+-- P2: the first strong class of the paragraph, wherever it is nested
+unfoldable pub P2 : List ℕ → Option ℕ
+P2 [] = none
+P2 (c ∷ cs) = if isStrong c then some c else P2 cs
+
+-- P3: level 1 where that is R or AL, and 0 otherwise
+unfoldable pub P3 : Option ℕ → ℕ
+P3 none = 0
+P3 (some c) = if eqb c R || eqb c AL then 1 else 0
+
+unfoldable pub baseByText : List ℕ → ℕ
+baseByText cs = P3 (P2 cs)
+
+-- a base request is the level 0 or 1 itself, or 2: by the text
+unfoldable pub baseOf : ℕ → List ℕ → ℕ
+baseOf request cs = if eqb request 2 then baseByText cs else request

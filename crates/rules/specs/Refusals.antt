@@ -1,0 +1,125 @@
+-- The ten refusals: the number and the place of each, and the order of checks of each job.
+use Prim.Native.Nat.{ℕ, zero, suc, _-_}
+use mathlib.Core.Bool.{Bool, true, false, _||_, not}
+use mathlib.Core.List.{List, [], _∷_}
+use mathlib.Core.Option.{Option, none, some}
+use lib.Dec.{eqb, leb, ltb}
+use lib.ListN.{length}
+use Rattle.rules.specs.Choice.{if_then_else_}
+use Rattle.rules.specs.Classes.{isUnknown, isRemoved, isParagraphEnd}
+use Rattle.rules.specs.Explicit.{removedLevel}
+
+-- the longest paragraph, and the highest level that resolving can give
+abbrev pub longest : ℕ
+longest = 4096
+
+abbrev pub highestResolved : ℕ
+highestResolved = 62
+
+-- what a check finds: nothing wrong, or a refusal's number and place
+pub data Check : Type 0 where
+  sound : Check
+  refuse : ℕ → ℕ → Check
+
+-- one check, then the next where the first finds nothing wrong
+infixr 20 _then_
+abbrev pub _then_ : Check → Check → Check
+sound then next = next
+(refuse number place) then next = refuse number place
+
+-- a refusal with place 0 where a test holds
+abbrev pub refuseWhere : Bool → ℕ → Check
+refuseWhere true number = refuse number 0
+refuseWhere false number = sound
+
+abbrev pub isEmpty : List ℕ → Bool
+isEmpty [] = true
+isEmpty (x ∷ xs) = false
+
+-- 1: there are no classes. 3: more than 4,096 positions
+unfoldable pub checkSome : List ℕ → Check
+checkSome cs = refuseWhere (isEmpty cs) 1
+
+unfoldable pub checkLength : List ℕ → Check
+checkLength cs = refuseWhere (ltb longest (length cs)) 3
+
+-- the fault at a position, given what stands after it: 2, no class; 4, a separator before the last position
+unfoldable pub faultAt : ℕ → ℕ → List ℕ → Check
+faultAt at c cs =
+    if isUnknown c then refuse 2 at else
+    if isParagraphEnd c then (if isEmpty cs then sound else refuse 4 at) else sound
+
+-- the first faulty position from the left, the first position being `at`
+unfoldable pub firstFault : ℕ → List ℕ → Check
+firstFault at [] = sound
+firstFault at (c ∷ cs) = faultAt at c cs then firstFault (suc at) cs
+
+-- the checks of a paragraph's classes, in the page's order
+unfoldable pub checkClasses : List ℕ → Check
+checkClasses cs = checkSome cs then checkLength cs then firstFault 0 cs
+
+-- 5: a base request above 2; in Order, a base above 1
+unfoldable pub checkRequest : ℕ → Check
+checkRequest request = refuseWhere (ltb 2 request) 5
+
+unfoldable pub checkBase : ℕ → Check
+checkBase base = refuseWhere (ltb 1 base) 5
+
+-- 6: a level buffer with fewer positions than the paragraph
+unfoldable pub checkLevelRoom : List ℕ → List ℕ → Check
+checkLevelRoom cs ls = refuseWhere (ltb (length ls) (length cs)) 6
+
+-- 7: a lent level that is not 0 to 62 on a kept position, or not 255 on a removed one
+unfoldable pub isBadLevel : ℕ → ℕ → Bool
+isBadLevel c l = if isRemoved c then not (eqb l removedLevel) else ltb highestResolved l
+
+unfoldable pub firstBadLevel : ℕ → List ℕ → List ℕ → Check
+firstBadLevel at [] ls = sound
+firstBadLevel at (c ∷ cs) [] = sound
+firstBadLevel at (c ∷ cs) (l ∷ ls) = if isBadLevel c l then refuse 7 at else firstBadLevel (suc at) cs ls
+
+-- 8: a line whose `from` is not below its `to`, or whose `to` is beyond the paragraph
+unfoldable pub checkLine : List ℕ → ℕ → ℕ → Check
+checkLine cs from to = refuseWhere (leb to from || ltb (length cs) to) 8
+
+-- 9: an order buffer shorter than the positions to be ordered, removed ones counted
+unfoldable pub checkOrderRoom : ℕ → List ℕ → Check
+checkOrderRoom positions order = refuseWhere (ltb (length order) positions) 9
+
+-- 10: ends that are none, begin with 0, do not rise strictly, or do not end with the paragraph's length
+unfoldable pub endsRise : ℕ → List ℕ → ℕ → Bool
+endsRise before [] last = eqb before last
+endsRise before (end ∷ ends) last = if ltb before end then endsRise end ends last else false
+
+unfoldable pub checkEnds : List ℕ → List ℕ → Check
+checkEnds cs ends = refuseWhere (isEmpty ends || not (endsRise 0 ends (length cs))) 10
+
+-- the checks of each job, each made only where those before it found nothing wrong
+unfoldable pub checksOfBase : List ℕ → Check
+checksOfBase cs = checkClasses cs
+
+unfoldable pub checksOfLevels : List ℕ → ℕ → List ℕ → Check
+checksOfLevels cs request levels = checkClasses cs then checkRequest request then checkLevelRoom cs levels
+
+unfoldable pub checksOfOrder : List ℕ → List ℕ → ℕ → Check
+checksOfOrder cs levels base =
+    checkClasses cs then checkBase base then checkLevelRoom cs levels then firstBadLevel 0 cs levels
+
+unfoldable pub checksOfLine : List ℕ → List ℕ → ℕ → ℕ → ℕ → List ℕ → Check
+checksOfLine cs levels base from to order =
+    checksOfOrder cs levels base then checkLine cs from to then checkOrderRoom (to - from) order
+
+unfoldable pub checksOfLines : List ℕ → List ℕ → ℕ → List ℕ → List ℕ → Check
+checksOfLines cs levels base ends order =
+    checksOfOrder cs levels base then checkEnds cs ends then checkOrderRoom (length cs) order
+
+-- Cut's own: 1; then at most 4,096 positions are looked at: 2 where an unknown class comes before any separator,
+-- 3 where there is no separator among them and more follow. `room` counts the positions that may still be looked at
+unfoldable pub walk : ℕ → ℕ → List ℕ → Check
+walk room at [] = sound
+walk zero at (c ∷ cs) = refuse 3 0
+walk (suc room) at (c ∷ cs) =
+    if isUnknown c then refuse 2 at else if isParagraphEnd c then sound else walk room (suc at) cs
+
+unfoldable pub checksOfCut : List ℕ → Check
+checksOfCut cs = checkSome cs then walk longest 0 cs

@@ -1,0 +1,75 @@
+-- Weak types: rules W1 to W7. Each goes over a whole run before the next; sor and eor are the run's start and end types.
+use Prim.Native.Nat.{ℕ}
+use mathlib.Core.Bool.{Bool, _||_, _&&_}
+use mathlib.Core.List.{List, [], _∷_, map}
+use lib.Dec.{eqb}
+use Rattle.rules.specs.Choice.{if_then_else_, headOr}
+use Rattle.rules.specs.Classes.{L, R, AL, EN, ES, ET, AN, CS, NSM, ON, isStrong}
+
+-- W1: NSM takes the type before it, at the start of the run the start type
+unfoldable pub W1 : ℕ → List ℕ → List ℕ
+W1 before [] = []
+W1 before (t ∷ ts) = if eqb t NSM then before ∷ W1 before ts else t ∷ W1 t ts
+
+-- W2: EN becomes AN where the nearest strong type before (R, L, AL or the start type) is AL
+unfoldable pub W2 : ℕ → List ℕ → List ℕ
+W2 strong [] = []
+W2 strong (t ∷ ts) =
+    (if eqb t EN && eqb strong AL then AN else t) ∷ W2 (if isStrong t then t else strong) ts
+
+-- W3: AL becomes R
+unfoldable pub changeW3 : ℕ → ℕ
+changeW3 t = if eqb t AL then R else t
+
+unfoldable pub W3 : List ℕ → List ℕ
+W3 ts = map changeW3 ts
+
+-- W4: one ES between two EN becomes EN; one CS between two numbers of one type becomes that type
+unfoldable pub changeW4 : ℕ → ℕ → ℕ → ℕ
+changeW4 before t next =
+    if eqb t ES && (eqb before EN && eqb next EN) then EN else
+    if eqb t CS && (eqb before EN && eqb next EN) then EN else
+    if eqb t CS && (eqb before AN && eqb next AN) then AN else t
+
+unfoldable pub W4 : ℕ → ℕ → List ℕ → List ℕ
+W4 before eor [] = []
+W4 before eor (t ∷ ts) = changeW4 before t (headOr eor ts) ∷ W4 t eor ts
+
+-- a longest stretch of types that pass a test: what stands after it
+unfoldable pub afterStretch : (ℕ → Bool) → ℕ → List ℕ → ℕ
+afterStretch test end [] = end
+afterStretch test end (t ∷ ts) = if test t then afterStretch test end ts else t
+
+-- each type of such a stretch is changed by what stands before and after the whole stretch
+unfoldable pub stretches : (ℕ → Bool) → (ℕ → ℕ → ℕ → ℕ) → ℕ → ℕ → List ℕ → List ℕ
+stretches test change before end [] = []
+stretches test change before end (t ∷ ts) =
+    if test t then change before (afterStretch test end ts) t ∷ stretches test change before end ts
+    else t ∷ stretches test change t end ts
+
+-- W5: a stretch of ET that touches EN becomes EN
+unfoldable pub isTerminator : ℕ → Bool
+isTerminator t = eqb t ET
+
+unfoldable pub changeW5 : ℕ → ℕ → ℕ → ℕ
+changeW5 before next t = if eqb before EN || eqb next EN then EN else t
+
+unfoldable pub W5 : ℕ → ℕ → List ℕ → List ℕ
+W5 sor eor ts = stretches isTerminator changeW5 sor eor ts
+
+-- W6: the remaining ES, ET and CS become ON
+unfoldable pub changeW6 : ℕ → ℕ
+changeW6 t = if eqb t ES || eqb t ET || eqb t CS then ON else t
+
+unfoldable pub W6 : List ℕ → List ℕ
+W6 ts = map changeW6 ts
+
+-- W7: EN becomes L where the nearest strong type before (R, L or the start type) is L
+unfoldable pub W7 : ℕ → List ℕ → List ℕ
+W7 strong [] = []
+W7 strong (t ∷ ts) =
+    (if eqb t EN && eqb strong L then L else t) ∷ W7 (if eqb t R || eqb t L then t else strong) ts
+
+-- the weak types of a run with its start and end types
+unfoldable pub weak : ℕ → ℕ → List ℕ → List ℕ
+weak sor eor ts = W7 sor (W6 (W5 sor eor (W4 sor eor (W3 (W2 sor (W1 sor ts))))))
