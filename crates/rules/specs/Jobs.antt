@@ -40,30 +40,30 @@ baseAnswer cs = answered (checksOfBase cs) (baseByText cs)
 
 -- Explicit and Resolve answer the base level used, and write a level for each position
 unfoldable pub levelsAnswer : List ℕ → ℕ → List ℕ → Answer
-levelsAnswer cs request levels = answered (checksOfLevels cs request levels) (baseOf request cs)
+levelsAnswer cs request levels = answered (checksOfLevels cs request (length levels)) (baseOf request cs)
 
 unfoldable pub explicitBuffer : List ℕ → ℕ → List ℕ → List ℕ
 explicitBuffer cs request levels =
     let base = baseOf request cs in
-    whereSound (checksOfLevels cs request levels) (over (explicitLevels base (X1 base) cs) levels) levels
+    whereSound (checksOfLevels cs request (length levels)) (over (explicitLevels base (X1 base) cs) levels) levels
 
 unfoldable pub resolveBuffer : List ℕ → ℕ → List ℕ → List ℕ
 resolveBuffer cs request levels =
-    whereSound (checksOfLevels cs request levels) (over (resolvedLevels (baseOf request cs) cs) levels) levels
+    whereSound (checksOfLevels cs request (length levels)) (over (resolvedLevels (baseOf request cs) cs) levels) levels
 
 -- Order answers how many positions it ordered, and writes them from left to right
 unfoldable pub lineAnswer : List ℕ → List ℕ → ℕ → ℕ → ℕ → List ℕ → Answer
 lineAnswer cs levels base from to order =
-    answered (checksOfLine cs levels base from to order) (length (lineOrder base cs levels from to))
+    answered (checksOfLine cs levels base from to (length order)) (length (lineOrder base cs levels from to))
 
 unfoldable pub lineBuffer : List ℕ → List ℕ → ℕ → ℕ → ℕ → List ℕ → List ℕ
 lineBuffer cs levels base from to order =
-    whereSound (checksOfLine cs levels base from to order) (over (lineOrder base cs levels from to) order) order
+    whereSound (checksOfLine cs levels base from to (length order)) (over (lineOrder base cs levels from to) order) order
 
 unfoldable pub linesAnswer : List ℕ → List ℕ → ℕ → List ℕ → List ℕ → Answer
 linesAnswer cs levels base ends order =
-    answered (checksOfLines cs levels base ends order) (length (allOrders base cs levels 0 ends))
+    answered (checksOfLines cs levels base ends (length order)) (length (allOrders base cs levels 0 ends))
 
 unfoldable pub linesBuffer : List ℕ → List ℕ → ℕ → List ℕ → List ℕ → List ℕ
 linesBuffer cs levels base ends order =
-    whereSound (checksOfLines cs levels base ends order) (over (allOrders base cs levels 0 ends) order) order
+    whereSound (checksOfLines cs levels base ends (length order)) (over (allOrders base cs levels 0 ends) order) order

@@ -65,9 +65,9 @@ checkRequest request = refuseWhere (ltb 2 request) 5
 unfoldable pub checkBase : ℕ → Check
 checkBase base = refuseWhere (ltb 1 base) 5
 
--- 6: a level buffer with fewer positions than the paragraph
-unfoldable pub checkLevelRoom : List ℕ → List ℕ → Check
-checkLevelRoom cs ls = refuseWhere (ltb (length ls) (length cs)) 6
+-- 6: a level buffer with fewer positions than the paragraph; `room` is how many it has
+unfoldable pub checkLevelRoom : List ℕ → ℕ → Check
+checkLevelRoom cs room = refuseWhere (ltb room (length cs)) 6
 
 -- 7: a lent level that is not 0 to 62 on a kept position, or not 255 on a removed one
 unfoldable pub isBadLevel : ℕ → ℕ → Bool
@@ -82,9 +82,9 @@ firstBadLevel at (c ∷ cs) (l ∷ ls) = if isBadLevel c l then refuse 7 at else
 unfoldable pub checkLine : List ℕ → ℕ → ℕ → Check
 checkLine cs from to = refuseWhere (leb to from || ltb (length cs) to) 8
 
--- 9: an order buffer shorter than the positions to be ordered, removed ones counted
-unfoldable pub checkOrderRoom : ℕ → List ℕ → Check
-checkOrderRoom positions order = refuseWhere (ltb (length order) positions) 9
+-- 9: an order buffer shorter than the positions to be ordered, removed ones counted; `room` is how many places it has
+unfoldable pub checkOrderRoom : ℕ → ℕ → Check
+checkOrderRoom positions room = refuseWhere (ltb room positions) 9
 
 -- 10: ends that are none, begin with 0, do not rise strictly, or do not end with the paragraph's length
 unfoldable pub endsRise : ℕ → List ℕ → ℕ → Bool
@@ -98,20 +98,20 @@ checkEnds cs ends = refuseWhere (isEmpty ends || not (endsRise 0 ends (length cs
 unfoldable pub checksOfBase : List ℕ → Check
 checksOfBase cs = checkClasses cs
 
-unfoldable pub checksOfLevels : List ℕ → ℕ → List ℕ → Check
-checksOfLevels cs request levels = checkClasses cs then checkRequest request then checkLevelRoom cs levels
+unfoldable pub checksOfLevels : List ℕ → ℕ → ℕ → Check
+checksOfLevels cs request room = checkClasses cs then checkRequest request then checkLevelRoom cs room
 
 unfoldable pub checksOfOrder : List ℕ → List ℕ → ℕ → Check
 checksOfOrder cs levels base =
-    checkClasses cs then checkBase base then checkLevelRoom cs levels then firstBadLevel 0 cs levels
+    checkClasses cs then checkBase base then checkLevelRoom cs (length levels) then firstBadLevel 0 cs levels
 
-unfoldable pub checksOfLine : List ℕ → List ℕ → ℕ → ℕ → ℕ → List ℕ → Check
-checksOfLine cs levels base from to order =
-    checksOfOrder cs levels base then checkLine cs from to then checkOrderRoom (to - from) order
+unfoldable pub checksOfLine : List ℕ → List ℕ → ℕ → ℕ → ℕ → ℕ → Check
+checksOfLine cs levels base from to room =
+    checksOfOrder cs levels base then checkLine cs from to then checkOrderRoom (to - from) room
 
-unfoldable pub checksOfLines : List ℕ → List ℕ → ℕ → List ℕ → List ℕ → Check
-checksOfLines cs levels base ends order =
-    checksOfOrder cs levels base then checkEnds cs ends then checkOrderRoom (length cs) order
+unfoldable pub checksOfLines : List ℕ → List ℕ → ℕ → List ℕ → ℕ → Check
+checksOfLines cs levels base ends room =
+    checksOfOrder cs levels base then checkEnds cs ends then checkOrderRoom (length cs) room
 
 -- Cut's own: 1; then at most 4,096 positions are looked at: 2 where an unknown class comes before any separator,
 -- 3 where there is no separator among them and more follow. `room` counts the positions that may still be looked at

@@ -1,0 +1,203 @@
+// The ten refusals, and the checks that the jobs make before they write anything. Each check answers
+// what the definition of that check says, in the page's numbers and places.
+ghost use mathlib.Core.Path.{_≡_};
+ghost use mathlib.Core.Bool.{Bool};
+ghost use Prim.Native.Nat.{_+_, _≤_, _<_};
+ghost use lib.ListN.{length, getD, drop};
+ghost use Rattle.rules.specs.Refusals.{faultAt, firstFault, checkClasses, isBadLevel, firstBadLevel, endsRise, checksOfLevels, checksOfOrder, checksOfLine, checksOfLines};
+ghost use Rattle.refusals.specs.Page.{checkOf};
+
+// The longest paragraph, the highest resolved level, and what a level buffer holds where removed.
+pub const LONGEST: usize = 4096;
+
+pub const HIGHEST_RESOLVED: u8 = 62;
+
+pub const REMOVED: u8 = 255;
+
+// A place is held where the page gives one.
+pub enum Refusal {
+    NoClasses,
+    UnknownClass(usize),
+    TooLong,
+    EarlySeparator(usize),
+    BadBase,
+    ShortLevels,
+    BadLevel(usize),
+    BadLine,
+    ShortOrder,
+    BadEnds,
+}
+
+pub enum Checked {
+    Sound,
+    Refused(Refusal),
+}
+
+// 2 or 4 at one position: a question of the list and the index, since a separator may stand last.
+pub(crate) fn fault_at(classes: &[u8], i: usize) -> Checked
+    requires { ⌜ i < length (now classes) ⌝ }
+    ensures { λ r. ⌜ checkOf r ≡ faultAt i (getD (now (classes .entry)) i 0) (drop (i + 1) (now (classes .entry))) ⌝ }
+{
+    let class = classes[i];
+    if classes::is_unknown(class) {
+        return Checked::Refused(Refusal::UnknownClass(i));
+    }
+    if classes::is_paragraph_end(class) {
+        if i + 1 < classes.len() {
+            return Checked::Refused(Refusal::EarlySeparator(i));
+        }
+        return Checked::Sound;
+    }
+    Checked::Sound
+}
+
+// The first faulty position from the left.
+pub(crate) fn first_fault(classes: &[u8]) -> Checked
+    ensures { λ r. ⌜ checkOf r ≡ firstFault 0 (now (classes .entry)) ⌝ }
+{
+    let mut i = 0;
+    while i < classes.len() {
+        let found = fault_at(classes, i);
+        if let Checked::Refused(refusal) = found {
+            return Checked::Refused(refusal);
+        }
+        i += 1;
+    }
+    Checked::Sound
+}
+
+// What every job but Cut asks of a paragraph's classes: 1, 3, then 2 or 4.
+pub fn check_classes(classes: &[u8]) -> Checked
+    ensures { λ r. ⌜ checkOf r ≡ checkClasses (now (classes .entry)) ⌝ }
+{
+    if classes.len() == 0 {
+        return Checked::Refused(Refusal::NoClasses);
+    }
+    if LONGEST < classes.len() {
+        return Checked::Refused(Refusal::TooLong);
+    }
+    first_fault(classes)
+}
+
+// 7 at one position.
+pub(crate) fn is_bad_level(class: u8, level: u8) -> bool
+    ensures { λ r. ⌜ r ≡ isBadLevel class level ⌝ }
+{
+    if classes::is_removed(class) {
+        return level != REMOVED;
+    }
+    HIGHEST_RESOLVED < level
+}
+
+// The first lent level that is bad, looked for on the paragraph's positions alone.
+pub(crate) fn first_bad_level(classes: &[u8], levels: &[u8]) -> Checked
+    requires { ⌜ length (now classes) ≤ length (now levels) ⌝ }
+    ensures { λ r. ⌜ checkOf r ≡ firstBadLevel 0 (now (classes .entry)) (now (levels .entry)) ⌝ }
+{
+    let mut i = 0;
+    while i < classes.len() {
+        if is_bad_level(classes[i], levels[i]) {
+            return Checked::Refused(Refusal::BadLevel(i));
+        }
+        i += 1;
+    }
+    Checked::Sound
+}
+
+// Whether the ends rise strictly from above 0 to the last.
+pub(crate) fn ends_rise(ends: &[u16], last: usize) -> bool
+    ensures { λ r. ⌜ r ≡ endsRise 0 (now (ends .entry)) last ⌝ }
+{
+    let mut before: usize = 0;
+    let mut i = 0;
+    while i < ends.len() {
+        let end = ends[i] as usize;
+        if end <= before {
+            return false;
+        }
+        before = end;
+        i += 1;
+    }
+    before == last
+}
+
+// The checks of Explicit and Resolve; `room` is how many positions the level buffer has.
+pub fn check_levels(classes: &[u8], request: u8, room: usize) -> Checked
+    ensures { λ r. ⌜ checkOf r ≡ checksOfLevels (now (classes .entry)) request room ⌝ }
+{
+    let first = check_classes(classes);
+    if let Checked::Refused(refusal) = first {
+        return Checked::Refused(refusal);
+    }
+    if 2 < request {
+        return Checked::Refused(Refusal::BadBase);
+    }
+    if room < classes.len() {
+        return Checked::Refused(Refusal::ShortLevels);
+    }
+    Checked::Sound
+}
+
+// The checks that both forms of Order begin with.
+pub(crate) fn check_order(classes: &[u8], levels: &[u8], base: u8) -> Checked
+    ensures { λ r. ⌜ checkOf r ≡ checksOfOrder (now (classes .entry)) (now (levels .entry)) base ⌝ }
+{
+    let first = check_classes(classes);
+    if let Checked::Refused(refusal) = first {
+        return Checked::Refused(refusal);
+    }
+    if 1 < base {
+        return Checked::Refused(Refusal::BadBase);
+    }
+    if levels.len() < classes.len() {
+        return Checked::Refused(Refusal::ShortLevels);
+    }
+    first_bad_level(classes, levels)
+}
+
+// The checks of one line; `room` is how many places the order buffer has.
+pub fn check_line(
+    classes: &[u8],
+    levels: &[u8],
+    base: u8,
+    from: usize,
+    to: usize,
+    room: usize,
+) -> Checked
+    ensures { λ r. ⌜ checkOf r ≡ checksOfLine (now (classes .entry)) (now (levels .entry)) base from to room ⌝ }
+{
+    let first = check_order(classes, levels, base);
+    if let Checked::Refused(refusal) = first {
+        return Checked::Refused(refusal);
+    }
+    if to <= from {
+        return Checked::Refused(Refusal::BadLine);
+    }
+    if classes.len() < to {
+        return Checked::Refused(Refusal::BadLine);
+    }
+    if room < to - from {
+        return Checked::Refused(Refusal::ShortOrder);
+    }
+    Checked::Sound
+}
+
+// The checks of all lines.
+pub fn check_lines(classes: &[u8], levels: &[u8], base: u8, ends: &[u16], room: usize) -> Checked
+    ensures { λ r. ⌜ checkOf r ≡ checksOfLines (now (classes .entry)) (now (levels .entry)) base (now (ends .entry)) room ⌝ }
+{
+    let first = check_order(classes, levels, base);
+    if let Checked::Refused(refusal) = first {
+        return Checked::Refused(refusal);
+    }
+    if ends.len() == 0 {
+        return Checked::Refused(Refusal::BadEnds);
+    }
+    if ends_rise(ends, classes.len()) {
+        if room < classes.len() {
+            return Checked::Refused(Refusal::ShortOrder);
+        }
+        return Checked::Sound;
+    }
+    Checked::Refused(Refusal::BadEnds)
+}
