@@ -1,0 +1,61 @@
+// The base level of a paragraph: rules P2 and P3, and the request that may stand in their place.
+ghost use mathlib.Core.Path.{_≡_};
+ghost use Rattle.rules.specs.Paragraph.{P2, P3, baseByText, baseOf};
+ghost use Rattle.paragraph.specs.Found.{foundOf};
+
+// The request that leaves the base to the text.
+pub const BY_TEXT: u8 = 2;
+
+pub enum FirstStrong {
+    Class(u8),
+    Nothing,
+}
+
+// P2. That nothing was found is an answer of its own, before a base is chosen.
+pub(crate) fn first_strong(classes: &[u8]) -> FirstStrong
+    ensures { λ r. ⌜ foundOf r ≡ P2 (now (classes .entry)) ⌝ }
+{
+    let mut i = 0;
+    while i < classes.len() {
+        let class = classes[i];
+        if classes::is_strong(class) {
+            return FirstStrong::Class(class);
+        }
+        i += 1;
+    }
+    FirstStrong::Nothing
+}
+
+// P3.
+pub(crate) fn level_of(found: FirstStrong) -> u8
+    ensures { λ r. ⌜ r ≡ P3 (foundOf found) ⌝ }
+{
+    match found {
+        FirstStrong::Class(class) => {
+            if class == classes::R {
+                return 1;
+            }
+            if class == classes::AL {
+                return 1;
+            }
+            0
+        }
+        FirstStrong::Nothing => 0,
+    }
+}
+
+pub fn base_by_text(classes: &[u8]) -> u8
+    ensures { λ r. ⌜ r ≡ baseByText (now (classes .entry)) ⌝ }
+{
+    level_of(first_strong(classes))
+}
+
+// The base level that a request asks for: itself, or what the text says.
+pub fn base_of(request: u8, classes: &[u8]) -> u8
+    ensures { λ r. ⌜ r ≡ baseOf request (now (classes .entry)) ⌝ }
+{
+    if request == BY_TEXT {
+        return base_by_text(classes);
+    }
+    request
+}
