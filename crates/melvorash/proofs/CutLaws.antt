@@ -1,0 +1,139 @@
+-- Cut: its walk, step by step, and what stands after the first paragraph.
+-- Assumes nothing.
+use Prim.Native.Nat.{ℕ, zero, suc, _+_, _-_, _≤_, _<_}
+use native.Mathlib.Nat.{zero-add}
+use native.Mathlib.Numerals.{add-one}
+use native.Mathlib.Omega.{arith}
+use mathlib.Core.Path.{_≡_, refl, sym, ap, ap₂, _∙_}
+use mathlib.Core.Bool.{Bool, true, false}
+use mathlib.Core.List.{List, [], _∷_, _++_}
+use lib.ListN.{length, getD, take, drop, drop-of-length-le}
+use lib.Seq.{take-length}
+use Rattle.rules.specs.Choice.{if_then_else_}
+use Rattle.rules.specs.Classes.{B, isUnknown, isParagraphEnd}
+use Rattle.rules.specs.Paragraph.{P1}
+use Rattle.rules.specs.Refusals.{Check, sound, refuse, _then_, isEmpty, checkSome, walk, checksOfCut}
+use Rattle.rules.specs.Jobs.{Answer, accepted, refused, answered, whereSound, cutAnswer, cutPart}
+use Rattle.rules.proofs.Lists.{drop-next}
+
+-- ---- the definitions' equations
+walk-one : (room at c : ℕ) (cs : List ℕ) → walk (suc room) at (c ∷ cs) ≡ (if isUnknown c then refuse 2 at else if isParagraphEnd c then sound else walk room (suc at) cs)
+unfolding walk
+walk-one room at c cs = refl
+
+P1-one : (c : ℕ) (cs : List ℕ) → P1 (c ∷ cs) ≡ (if isParagraphEnd c then c ∷ [] else c ∷ P1 cs)
+unfolding P1
+P1-one c cs = refl
+
+cut-of : (cs : List ℕ) → (length cs ≡ 0 → ⊥) → answered (walk 4096 0 cs) (length (P1 cs)) ≡ cutAnswer cs
+unfolding cutAnswer checksOfCut checkSome
+cut-of [] h = absurd (h refl)
+cut-of (c ∷ cs) h = refl
+
+-- ---- the walk: where it stands at i
+pub record Walking (cs : List ℕ) (i : ℕ) : Type 0 where
+  pub within : i ≤ length cs
+  pub room : i ≤ 4096
+  pub some : length cs ≡ 0 → ⊥
+  pub checks : walk (4096 - i) i (drop i cs) ≡ walk 4096 0 cs
+  pub paragraph : i + length (P1 (drop i cs)) ≡ length (P1 cs)
+
+pub cut-none : (cs : List ℕ) → length cs ≡ 0 → refused 1 0 ≡ cutAnswer cs
+unfolding cutAnswer checksOfCut checkSome
+cut-none [] h = refl
+cut-none (c ∷ cs) h = absurd (omega arith)
+
+pub walk-begun : (cs : List ℕ) → (length cs ≡ 0 → ⊥) → Walking cs 0
+walk-begun cs h = record { within = omega arith; room = omega arith; some = h; checks = refl; paragraph = zero-add (length (P1 cs)) }
+
+module _ (cs : List ℕ) (i : ℕ) (w : Walking cs i) where
+  settled : {check : Check} (n : ℕ) → check ≡ walk 4096 0 cs → n ≡ length (P1 cs) → answered check n ≡ cutAnswer cs
+  settled n e l = ap₂ answered e l ∙ cut-of cs (w .some)
+
+  refusing : (number place : ℕ) → refuse number place ≡ walk 4096 0 cs → refused number place ≡ cutAnswer cs
+  refusing number place e = settled {check = refuse number place} (length (P1 cs)) e refl
+
+  pub cut-done : length cs ≤ i → accepted i ≡ cutAnswer cs
+  unfolding walk P1
+  cut-done h =
+      settled {check = sound} i (rw (drop-of-length-le cs h) at (w .checks))
+      (let e : i + length (P1 []) ≡ length (P1 cs) = rw (drop-of-length-le cs h) at (w .paragraph) in omega arith)
+
+  module _ (h : i < length cs) where
+    pub cut-long : i ≡ 4096 → refused 3 0 ≡ cutAnswer cs
+    unfolding walk
+    cut-long e = refusing 3 0 (rw (e, drop-next cs 4096 (rw e at h)) at (w .checks))
+
+    module _ (ne : i ≡ 4096 → ⊥) where
+      one-less : 4096 - i ≡ suc (4096 - (i + 1))
+      one-less = omega (arith, w .room, ne)
+
+      here : walk (4096 - i) i (drop i cs) ≡ (if isUnknown (getD cs i 0) then refuse 2 i else if isParagraphEnd (getD cs i 0) then sound else walk (4096 - (i + 1)) (i + 1) (drop (i + 1) cs))
+      here = rw (one-less, drop-next cs i h, walk-one) (rw add-one)
+
+      pub cut-unknown : isUnknown (getD cs i 0) ≡ true → refused 2 i ≡ cutAnswer cs
+      cut-unknown u = refusing 2 i (rw (here, u) at (w .checks))
+
+      module _ (u : isUnknown (getD cs i 0) ≡ false) where
+        pub cut-end : isParagraphEnd (getD cs i 0) ≡ true → accepted (i + 1) ≡ cutAnswer cs
+        cut-end p =
+            settled {check = sound} (i + 1) (rw (here, u, p) at (w .checks))
+            (rw (drop-next cs i h, P1-one, p) at (w .paragraph))
+
+        pub cut-on : isParagraphEnd (getD cs i 0) ≡ false → Walking cs (i + 1)
+        cut-on p =
+            let e : i + suc (length (P1 (drop (i + 1) cs))) ≡ length (P1 cs) = rw (drop-next cs i h, P1-one, p) at (w .paragraph) in
+            record {
+              within = omega arith;
+              room = omega (arith, w .room, ne);
+              some = w .some;
+              checks = rw (here, u, p) at (w .checks);
+              paragraph = omega arith
+            }
+
+-- ---- the second form: the paragraph is a part of the lent classes
+P1-part : (cs : List ℕ) → take (length (P1 cs)) cs ≡ P1 cs
+unfolding P1
+P1-part [] = refl
+P1-part (c ∷ cs) = by (isParagraphEnd c) refl (P1-part cs)
+  where
+    by : (b : Bool) → isParagraphEnd c ≡ b → take (length (P1 cs)) cs ≡ P1 cs → take (length (P1 (c ∷ cs))) (c ∷ cs) ≡ P1 (c ∷ cs)
+    by true e h = rw e
+    by false e h = rw e (ap (λ (xs : List ℕ). c ∷ xs) h)
+
+P1-within : (cs : List ℕ) → length (P1 cs) ≤ length cs
+unfolding P1
+P1-within [] = omega arith
+P1-within (c ∷ cs) = by (isParagraphEnd c) refl (P1-within cs)
+  where
+    by : (b : Bool) → isParagraphEnd c ≡ b → length (P1 cs) ≤ length cs → length (P1 (c ∷ cs)) ≤ length (c ∷ cs)
+    by true e h = rw e (omega arith)
+    by false e h = rw e (omega arith)
+
+pub record Part (cs : List ℕ) (n : ℕ) : Type 0 where
+  pub within : n ≤ length cs
+  pub part : take n cs ≡ cutPart cs
+
+accepted-value : {m n : ℕ} → accepted m ≡ accepted n → m ≡ n
+accepted-value e = cc
+
+never-both : {n number place : ℕ} → accepted n ≡ refused number place → ⊥
+never-both e = let z : _≡_ {A = ℕ} 0 1 = cc in omega arith
+
+pub part-accepted : (cs : List ℕ) (n : ℕ) → accepted n ≡ cutAnswer cs → Part cs n
+unfolding cutAnswer cutPart
+part-accepted cs n e = by (checksOfCut cs) refl e
+  where
+    by : (check : Check) → checksOfCut cs ≡ check → accepted n ≡ answered check (length (P1 cs)) → Part cs n
+    by sound s a =
+        let m : n ≡ length (P1 cs) = accepted-value a in
+        record { within = rw m (P1-within cs); part = rw (s, m) (P1-part cs) }
+    by (refuse number place) s a = absurd (never-both a)
+
+pub part-refused : (cs : List ℕ) (number place : ℕ) → refused number place ≡ cutAnswer cs → [] ≡ cutPart cs
+unfolding cutAnswer cutPart
+part-refused cs number place e = by (checksOfCut cs) refl e
+  where
+    by : (check : Check) → checksOfCut cs ≡ check → refused number place ≡ answered check (length (P1 cs)) → [] ≡ cutPart cs
+    by sound s a = absurd (never-both (sym a))
+    by (refuse k p) s a = rw s

@@ -1,0 +1,42 @@
+// Cut: the first paragraph of the lent classes.
+use crate::answers::CutAnswer;
+use refusals::Refusal;
+
+ghost use mathlib.Core.Path.{_≡_};
+ghost use Rattle.rules.specs.Jobs.{cutAnswer, cutPart};
+ghost use Rattle.melvorash.specs.Answers.{cutPage, Answers};
+
+// The paragraph's length. At most 4,096 positions are looked at, and none after the paragraph.
+pub fn cut(classes: &[u8]) -> CutAnswer
+    ensures { λ r. ⌜ Answers cutPage (cutAnswer (now (classes .entry))) r ⌝ }
+{
+    if classes.len() == 0 {
+        return CutAnswer::Refused(Refusal::NoClasses);
+    }
+    let mut i = 0;
+    while i < classes.len() {
+        if i == refusals::LONGEST {
+            return CutAnswer::Refused(Refusal::TooLong);
+        }
+        let class = classes[i];
+        if classes::is_unknown(class) {
+            return CutAnswer::Refused(Refusal::UnknownClass(i));
+        }
+        if classes::is_paragraph_end(class) {
+            return CutAnswer::Length(i + 1);
+        }
+        i += 1;
+    }
+    CutAnswer::Length(i)
+}
+
+// The paragraph itself, as the first part of the lent classes: empty exactly where `cut` refuses.
+pub fn cut_part(classes: &[u8]) -> &[u8]
+    ensures { λ r. ⌜ now r ≡ cutPart (now (classes .entry)) ⌝ }
+{
+    let answer = cut(classes);
+    match answer {
+        CutAnswer::Length(length) => &classes[..length],
+        CutAnswer::Refused(_) => &classes[..0],
+    }
+}
