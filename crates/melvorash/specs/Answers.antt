@@ -5,12 +5,24 @@ use mathlib.Core.List.{List}
 use Rattle.rules.specs.Jobs.{Answer, accepted, refused}
 use Rattle.refusals.specs.Page.{numberOf, placeOf}
 use Rattle.melvorash.specs.declared.answers.CutAnswer.{CutAnswer}
-use Rattle.melvorash.specs.declared.answers.CutAnswer.the-variants.{Length, Refused}
+use Rattle.melvorash.specs.declared.answers.CutAnswer.the-variants as Cutting
+use Rattle.melvorash.specs.declared.answers.BaseAnswer.{BaseAnswer}
+use Rattle.melvorash.specs.declared.answers.BaseAnswer.the-variants as Basing
+use Rattle.melvorash.specs.declared.answers.OrderAnswer.{OrderAnswer}
+use Rattle.melvorash.specs.declared.answers.OrderAnswer.the-variants as Ordering
 
--- the length, or the refusal's number and place
+-- the length, the base level used or the count of positions placed; or the refusal's number and place
 abbrev pub cutPage : CutAnswer → Answer
-cutPage (Length n) = accepted n
-cutPage (Refused r) = refused (numberOf r) (placeOf r)
+cutPage (Cutting.Length n) = accepted n
+cutPage (Cutting.Refused r) = refused (numberOf r) (placeOf r)
+
+abbrev pub basePage : BaseAnswer → Answer
+basePage (Basing.Level l) = accepted l
+basePage (Basing.Refused r) = refused (numberOf r) (placeOf r)
+
+abbrev pub orderPage : OrderAnswer → Answer
+orderPage (Ordering.Ordered p) = accepted (p .count)
+orderPage (Ordering.Refused r) = refused (numberOf r) (placeOf r)
 
 -- a job that is lent nothing to write: its answer, on the page, is the wanted one
 pub record Answers {R : Type 0} (page : R → Answer) (wanted : Answer) (r : R) : Type 0 where

@@ -1,7 +1,24 @@
 // What the jobs answer: a value, or the refusal.
 use refusals::Refusal;
 
+// The first paragraph's length.
 pub enum CutAnswer {
     Length(usize),
+    Refused(Refusal),
+}
+
+// The base level used.
+pub enum BaseAnswer {
+    Level(u8),
+    Refused(Refusal),
+}
+
+// What ordering did: how many positions it placed.
+pub struct Placed {
+    pub count: usize,
+}
+
+pub enum OrderAnswer {
+    Ordered(Placed),
     Refused(Refusal),
 }

@@ -1,4 +1,5 @@
 // The five jobs. Each checks its input, refuses it with the page's number and place, and then has
 // altered nothing; or does its work by the definitions of section 3.12.
 pub mod answers;
+pub mod base;
 pub mod cut;
