@@ -1,3 +1,4 @@
 pub mod CutLaws
 pub mod CutTheorems
 pub mod JobLaws
+pub mod Determined

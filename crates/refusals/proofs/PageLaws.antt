@@ -1,0 +1,33 @@
+-- A refusal is told by its number and place: no two refusals share both. Assumes nothing.
+use Prim.Native.Nat.{ℕ}
+use mathlib.Core.Path.{_≡_, refl, sym, ap₂, _∙_}
+use lib.Dec.{eqb}
+use Rattle.rules.specs.Choice.{if_then_else_}
+use Rattle.refusals.specs.Page.{numberOf, placeOf}
+use Rattle.refusals.specs.declared.Refusal.{Refusal}
+use Rattle.refusals.specs.declared.Refusal.the-variants.{NoClasses, UnknownClass, TooLong, EarlySeparator, BadBase, ShortLevels, BadLevel, BadLine, ShortOrder, BadEnds}
+
+-- the refusal with a number and a place
+abbrev pub refusalWith : ℕ → ℕ → Refusal
+refusalWith n at =
+    if eqb n 1 then NoClasses else
+    if eqb n 2 then UnknownClass at else
+    if eqb n 3 then TooLong else
+    if eqb n 4 then EarlySeparator at else
+    if eqb n 5 then BadBase else
+    if eqb n 6 then ShortLevels else
+    if eqb n 7 then BadLevel at else
+    if eqb n 8 then BadLine else
+    if eqb n 9 then ShortOrder else BadEnds
+
+pub refusal-told : (r : Refusal) → refusalWith (numberOf r) (placeOf r) ≡ r
+refusal-told NoClasses = refl
+refusal-told (UnknownClass at) = refl
+refusal-told TooLong = refl
+refusal-told (EarlySeparator at) = refl
+refusal-told BadBase = refl
+refusal-told ShortLevels = refl
+refusal-told (BadLevel at) = refl
+refusal-told BadLine = refl
+refusal-told ShortOrder = refl
+refusal-told BadEnds = refl
