@@ -119,7 +119,7 @@ unfolding span
 span-nil test = refl
 
 -- a case split on a test, for the laws below
-by-test : {A : Type 0} (b : Bool) → (b ≡ true → A) → (b ≡ false → A) → A
+pub by-test : {A : Type 0} (b : Bool) → (b ≡ true → A) → (b ≡ false → A) → A
 by-test true holds fails = holds refl
 by-test false holds fails = fails refl
 

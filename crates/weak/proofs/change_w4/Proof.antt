@@ -1,36 +1,39 @@
+-- `weak::change_w4` meets its contract: the tests on the way to each return decide `changeW4`. Assumes nothing.
+use mathlib.Core.Path.{sym}
 use borrow.Author.Needs.{needs}
+use borrow.Author.Tests.{ne-eqb}
+use Rattle.weak.proofs.WeakLaws.{W4-apart}
+use Rattle.rules.proofs.Tests.{tests}
+use Rattle.rules.specs.Weak.{changeW4}
 use Rattle.weak.proofs.change_w4.Statement.{statement}
 use Rattle.weak.proofs.change_w4.Tie as tie
-use Rattle.weak.proofs.change_w4.Reads as reads
-use Rattle.weak.proofs.change_w4.Lts as lts
 
--- src/lib.rt:89:9
 returns : tie.Need-returns
-returns c = search needs
+returns c = W4-apart _ _ _ (c .if1 .taken)
 
--- src/lib.rt:93:13
 returns-2 : tie.Need-returns-2
-returns-2 c = search needs
+unfolding changeW4
+returns-2 c = simp (sym (c .before .before .if1 .left), c .before .if2 .taken, c .if3 .taken)
 
--- src/lib.rt:96:13
 returns-3 : tie.Need-returns-3
-returns-3 c = search needs
+unfolding changeW4
+returns-3 c = simp (sym (c .before .before .before .if1 .left), c .before .before .if2 .taken, c .if4 .taken)
 
--- src/lib.rt:98:9
 returns-4 : tie.Need-returns-4
-returns-4 c = search needs
+unfolding changeW4
+returns-4 c = simp (sym (c .before .before .before .if1 .left), c .before .before .if2 .taken, ne-eqb _ _ (c .before .if3 .left), ne-eqb _ _ (c .if4 .left))
 
--- src/lib.rt:102:13
 returns-5 : tie.Need-returns-5
-returns-5 c = search needs
+unfolding changeW4
+returns-5 c = simp (sym (c .before .before .before .if1 .left), c .before .if5 .taken, c .if6 .taken)
 
--- src/lib.rt:104:9
 returns-6 : tie.Need-returns-6
-returns-6 c = search needs
+unfolding changeW4
+returns-6 c = search (needs, tests)
 
--- src/lib.rt:85:1
 returns-7 : tie.Need-returns-7
-returns-7 c = search needs
+unfolding changeW4
+returns-7 c = search (needs, tests)
 
 pub change-w4-spec : {M : Type 1} → statement M
 change-w4-spec =

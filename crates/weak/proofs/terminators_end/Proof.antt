@@ -1,42 +1,43 @@
+-- `weak::terminators_end` meets its contract: what is passed and the stretch that is left make up the whole stretch.
+-- The measure is what is left of the length. Assumes nothing.
+use Prim.Native.Nat.{_+_, _-_}
+use mathlib.Core.Path.{_≡_, refl, sym, _∙_}
+use lib.ListN.{length, drop}
+use borrow.Author.Tests.{eq-eqb, ne-eqb}
+use Rattle.rules.specs.Weak.{isTerminator}
+use Rattle.rules.proofs.Passes.{span, span-further, span-there, span-past}
 use borrow.Author.Needs.{needs}
 use Rattle.weak.proofs.terminators_end.Statement.{statement}
 use Rattle.weak.proofs.terminators_end.Tie as tie
-use Rattle.weak.proofs.terminators_end.Reads as reads
-use Rattle.weak.proofs.terminators_end.Lts as lts
 
 abbrev Inv-loop : tie.InvT-loop
-Inv-loop types from i₀ i = ?
+Inv-loop types from i₀ i = i + span isTerminator (drop i types) ≡ from + span isTerminator (drop from types)
 
 abbrev μ-loop : tie.MeasureT-loop
-μ-loop types from i₀ i = ?
+μ-loop types from i₀ i = length types - i
 
--- src/lib.rt:129:5
 loop-holds : tie.Need-loop-holds Inv-loop μ-loop
-loop-holds c = search needs
+loop-holds c = refl
 
--- src/lib.rt:130:12
 shared-slice-read-if1 : tie.Need-shared-slice-read-if1 Inv-loop μ-loop
 shared-slice-read-if1 c = search needs
 
--- src/lib.rt:131:13
 returns : tie.Need-returns Inv-loop μ-loop
-returns c = search needs
+unfolding isTerminator
+returns c = sym (span-there isTerminator _ _ (c .before .before .loop-test .taken) (ne-eqb _ _ (c .if1 .taken))) ∙ c .before .before .before .loop .inv
 
--- src/lib.rt:133:9
 add-i : tie.Need-add-i Inv-loop μ-loop
 add-i c = search needs
 
--- src/lib.rt:129:5
 loop-less : tie.Need-loop-less Inv-loop μ-loop
 loop-less c = search needs
 
--- src/lib.rt:129:5
 loop-again : tie.Need-loop-again Inv-loop μ-loop
-loop-again c = search needs
+unfolding isTerminator
+loop-again c = sym (span-further isTerminator _ _ (c .before .before .loop-test .taken) (eq-eqb _ _ (c .if1 .left))) ∙ c .before .before .before .loop .inv
 
--- src/lib.rt:125:1
 returns-2 : tie.Need-returns-2 Inv-loop μ-loop
-returns-2 c = search needs
+returns-2 c = sym (span-past isTerminator _ _ (c .loop-test .left)) ∙ c .before .loop .inv
 
 pub terminators-end-spec : {M : Type 1} → statement M
 terminators-end-spec =

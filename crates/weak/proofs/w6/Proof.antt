@@ -1,51 +1,47 @@
+-- `weak::w6` meets its contract: it is a sweep that carries nothing. The measure is what is left of the length.
+-- Assumes nothing.
+use Prim.Native.Nat.{_-_}
+use mathlib.Core.Path.{refl, sym, _∙_}
+use lib.ListN.{length}
+use Rattle.rules.proofs.Passes.{Swept, sweep-begun, sweep-step-in-place, sweep-done}
+use Rattle.rules.specs.Weak.{changeW6}
+use Rattle.weak.proofs.WeakLaws.{W6-sweep}
 use borrow.Author.Needs.{needs}
 use Rattle.weak.proofs.w6.Statement.{statement}
 use Rattle.weak.proofs.w6.Tie as tie
-use Rattle.weak.proofs.w6.Reads as reads
-use Rattle.weak.proofs.w6.Lts as lts
-use Rattle.weak.proofs.change_w6.Reads as change-w6-reads
 
 abbrev Inv-loop : tie.InvT-loop
-Inv-loop types₀ i₀ types i = ?
+Inv-loop types₀ i₀ types i = Swept (λ s t n. changeW6 t) (λ s t. s) 0 0 types₀ types types 0 i
 
 abbrev μ-loop : tie.MeasureT-loop
-μ-loop types₀ i₀ types i = ?
+μ-loop types₀ i₀ types i = length types₀ - i
 
--- src/lib.rt:190:5
 loop-holds : tie.Need-loop-holds Inv-loop μ-loop
-loop-holds c = search needs
+loop-holds c = sweep-begun _ _ _ refl
 
--- src/lib.rt:191:30
 slice-read-change-w6 : tie.Need-slice-read-change-w6 Inv-loop μ-loop
 slice-read-change-w6 c = search needs
 
--- src/lib.rt:191:20
 change-w6-requires : tie.Need-change-w6-requires Inv-loop μ-loop
 change-w6-requires c κs = search needs
 
--- src/lib.rt:191:9
 slice-write-types : tie.Need-slice-write-types Inv-loop μ-loop
 slice-write-types c = search needs
 
--- src/lib.rt:192:9
 add-i : tie.Need-add-i Inv-loop μ-loop
 add-i c = search needs
 
--- src/lib.rt:190:5
 loop-less : tie.Need-loop-less Inv-loop μ-loop
 loop-less c = search needs
 
--- src/lib.rt:190:5
 loop-again : tie.Need-loop-again Inv-loop μ-loop
-loop-again c = search needs
+loop-again c = sweep-step-in-place (c .before .before .before .loop .inv) (c .before .before .loop-test .taken) (c .change-w6 .ensures) refl
 
--- src/lib.rt:186:1
 same-length : tie.Need-same-length Inv-loop μ-loop
 same-length c = search needs
 
--- src/lib.rt:186:1
 returns : tie.Need-returns Inv-loop μ-loop
-returns c = search needs
+returns c = sweep-done (c .before .loop .inv) (c .loop-test .left) ∙ sym (W6-sweep _)
 
 pub w6-spec : {M : Type 1} → statement M
 w6-spec =

@@ -1,56 +1,50 @@
+-- `weak::w7` meets its contract: it is a sweep that carries the nearest strong type before. The measure is what is left of the length.
+-- Assumes nothing.
+use Prim.Native.Nat.{_-_}
+use mathlib.Core.Path.{refl, sym, _∙_}
+use lib.ListN.{length}
+use Rattle.rules.proofs.Passes.{Swept, sweep-begun, sweep-step-in-place, sweep-done}
+use Rattle.weak.specs.Steps.{changeW7, strongW7}
+use Rattle.weak.proofs.WeakLaws.{W7-sweep}
 use borrow.Author.Needs.{needs}
 use Rattle.weak.proofs.w7.Statement.{statement}
 use Rattle.weak.proofs.w7.Tie as tie
-use Rattle.weak.proofs.w7.Reads as reads
-use Rattle.weak.proofs.w7.Lts as lts
-use Rattle.weak.proofs.change_w7.Reads as change-w7-reads
-use Rattle.weak.proofs.strong_w7.Reads as strong-w7-reads
 
 abbrev Inv-loop : tie.InvT-loop
-Inv-loop types₀ sor strong₀ i₀ types strong i = ?
+Inv-loop types₀ sor strong₀ i₀ types strong i = Swept (λ s t n. changeW7 s t) strongW7 0 sor types₀ types types strong i
 
 abbrev μ-loop : tie.MeasureT-loop
-μ-loop types₀ sor strong₀ i₀ types strong i = ?
+μ-loop types₀ sor strong₀ i₀ types strong i = length types₀ - i
 
--- src/lib.rt:225:5
 loop-holds : tie.Need-loop-holds Inv-loop μ-loop
-loop-holds c = search needs
+loop-holds c = sweep-begun _ _ _ refl
 
--- src/lib.rt:226:17
 slice-read-t : tie.Need-slice-read-t Inv-loop μ-loop
 slice-read-t c = search needs
 
--- src/lib.rt:227:20
 change-w7-requires : tie.Need-change-w7-requires Inv-loop μ-loop
 change-w7-requires c κs = search needs
 
--- src/lib.rt:227:9
 slice-write-types : tie.Need-slice-write-types Inv-loop μ-loop
 slice-write-types c = search needs
 
--- src/lib.rt:228:9
 strong-w7-requires : tie.Need-strong-w7-requires Inv-loop μ-loop
 strong-w7-requires c κs = search needs
 
--- src/lib.rt:229:9
 add-i : tie.Need-add-i Inv-loop μ-loop
 add-i c = search needs
 
--- src/lib.rt:225:5
 loop-less : tie.Need-loop-less Inv-loop μ-loop
 loop-less c = search needs
 
--- src/lib.rt:225:5
 loop-again : tie.Need-loop-again Inv-loop μ-loop
-loop-again c = search needs
+loop-again c = sweep-step-in-place (c .before .before .before .before .loop .inv) (c .before .before .before .loop-test .taken) (c .before .change-w7 .ensures) (c .strong-w7 .ensures)
 
--- src/lib.rt:220:1
 same-length : tie.Need-same-length Inv-loop μ-loop
 same-length c = search needs
 
--- src/lib.rt:220:1
 returns : tie.Need-returns Inv-loop μ-loop
-returns c = search needs
+returns c = sweep-done (c .before .loop .inv) (c .loop-test .left) ∙ sym (W7-sweep _ _)
 
 pub w7-spec : {M : Type 1} → statement M
 w7-spec =
