@@ -10,6 +10,7 @@ use mathlib.Core.Path.{_≡_, refl, sym, ap, subst, _∙_}
 use mathlib.Core.List.{List, [], _∷_, _++_, map, append-nil, append-assoc}
 use lib.ListN.{length, getD, take, drop, set, replicate, length-append, length-set, length-take, length-drop, length-replicate, drop-of-length-le}
 use lib.Seq.{take-all, drop-nil, getD-drop, drop-drop, take-at, drop-at, length-take-le}
+use borrow.Rule.Slice.PartMut.{midOf, postOf, putMid, same-len-mid, mid-len, drop-put}
 use Rattle.rules.specs.Choice.{if_then_else_, headOr}
 use Rattle.rules.specs.Weak.{afterStretch, stretches}
 use Rattle.rules.proofs.Lists.{take-set-next, drop-next, drop-set-next, take-next}
@@ -104,7 +105,6 @@ module _ {write : ℕ → ℕ → ℕ → ℕ} {carry : ℕ → ℕ → ℕ} {en
 unfoldable pub span : (ℕ → Bool) → List ℕ → ℕ
 span test [] = 0
 span test (t ∷ ts) = if test t then suc (span test ts) else 0
-
 
 span-here : (test : ℕ → Bool) (t : ℕ) (ts : List ℕ) → test t ≡ true → span test (t ∷ ts) ≡ suc (span test ts)
 unfolding span
@@ -225,29 +225,51 @@ module _ {test : ℕ → Bool} {change : ℕ → ℕ → ℕ → ℕ} {end : ℕ
         within = omega (arith, now .long);
         long = now .long;
         joined =
-          ap (λ (r : List ℕ). r ++ stretches test change (getD xs i 0) end (drop (i + 1) xs)) (take-next xs i below)
-          ∙ append-assoc (take i xs) (getD xs i 0 ∷ []) (stretches test change (getD xs i 0) end (drop (i + 1) xs))
-          ∙ ap (λ (r : List ℕ). take i xs ++ r) (sym (stretches-over test change end before (getD xs i 0) (drop (i + 1) xs) fails) ∙ ap (stretches test change before end) (sym (drop-next xs i below)))
-          ∙ now .joined
+            ap (λ (r : List ℕ). r ++ stretches test change (getD xs i 0) end (drop (i + 1) xs)) (take-next xs i below)
+            ∙ append-assoc (take i xs) (getD xs i 0 ∷ []) (stretches test change (getD xs i 0) end (drop (i + 1) xs))
+            ∙ ap (λ (r : List ℕ). take i xs ++ r) (sym (stretches-over test change end before (getD xs i 0) (drop (i + 1) xs) fails) ∙ ap (stretches test change before end) (sym (drop-next xs i below)))
+            ∙ now .joined;
       }
 
-  module _ {start : ℕ} {xs₀ xs : List ℕ} {before i e v : ℕ} (now : Stretched test change end start xs₀ xs before i) (ends : e ≡ i + span test (drop i xs)) (same : (t : ℕ) → test t ≡ true → change before (getD xs e end) t ≡ v) where
-    within-end : (i ≤ e) × (e ≤ length xs)
-    within-end = span-end test xs i e (omega (arith, now .within, now .long)) ends
+  -- a stretch that begins at i and ends at e is filled by what its change gives every type of it
+  module _ {start : ℕ} {xs₀ xs ys : List ℕ} {before i e v : ℕ} (now : Stretched test change end start xs₀ xs before i) (ends : e ≡ i + span test (drop i xs)) (same : (t : ℕ) → test t ≡ true → change before (getD xs e end) t ≡ v) (fill : ys ≡ replicate (length (midOf i (e - i) xs)) v) where
+    bounds : (i ≤ e) × (e ≤ length xs)
+    bounds = span-end test xs i e (omega (arith, now .within, now .long)) ends
 
-    filling : List ℕ
-    filling = take i xs ++ replicate (e - i) v
+    the-fill : ys ≡ replicate (e - i) v
+    the-fill = fill ∙ ap (λ (n : ℕ). replicate n v) (mid-len i e xs (bounds .1))
 
-    length-filling : length filling ≡ e
-    unfolding filling
-    length-filling =
-        length-append (take i xs) (replicate (e - i) v)
-        ∙ omega (arith, length-take-le i xs (omega (arith, within-end .0, within-end .1)), length-replicate (e - i) v, within-end .0)
+    length-fill : length ys ≡ e - i
+    length-fill = ap length the-fill ∙ length-replicate (e - i) v
 
-    the-stretch : stretches test change before end (drop i xs) ≡ replicate (e - i) v ++ stretches test change before end (drop e xs)
+    take-fill : take e (putMid i (e - i) xs ys) ≡ take i xs ++ ys
+    take-fill =
+        let part : length (take i xs ++ ys) ≡ e = length-append (take i xs) ys ∙ omega (arith, length-take-le i xs (omega (arith, bounds)), length-fill, bounds) in
+        ap (take e) (sym (append-assoc (take i xs) ys (postOf i (e - i) xs))) ∙ take-at (take i xs ++ ys) (postOf i (e - i) xs) e part
+
+    the-stretch : stretches test change before end (drop i xs) ≡ ys ++ stretches test change before end (drop e xs)
     the-stretch =
         let size : span test (drop i xs) ≡ e - i = omega arith in
-        let there : i + (e - i) ≡ e = omega (arith, within-end .0) in
+        let there : i + (e - i) ≡ e = omega (arith, bounds) in
         filled test change end before v (drop i xs) (λ t holds. ap (λ (n : ℕ). change before n t) (after-span test end (drop i xs) ∙ getD-drop i xs (span test (drop i xs)) end ∙ ap (λ (n : ℕ). getD xs n end) (sym ends)) ∙ same t holds)
         ∙ ap (λ (n : ℕ). replicate n v ++ stretches test change before end (drop n (drop i xs))) size
         ∙ ap (λ (r : List ℕ). replicate (e - i) v ++ stretches test change before end r) (drop-drop (e - i) i xs ∙ ap (λ (n : ℕ). drop n xs) there)
+        ∙ ap (λ (r : List ℕ). r ++ stretches test change before end (drop e xs)) (sym the-fill)
+
+    pub stretch-filled : Stretched test change end start xs₀ (putMid i (e - i) xs ys) before e
+    stretch-filled =
+        record {
+          within = omega (arith, bounds, now .long);
+          long = same-len-mid i (e - i) xs ys (length-fill ∙ sym (mid-len i e xs (bounds .1))) ∙ now .long;
+          joined =
+              ap (λ (r : List ℕ). r ++ stretches test change before end (drop e (putMid i (e - i) xs ys))) take-fill
+              ∙ ap (λ (r : List ℕ). (take i xs ++ ys) ++ stretches test change before end r) (drop-put i e xs ys (bounds .0) (bounds .1) length-fill)
+              ∙ append-assoc (take i xs) ys (stretches test change before end (drop e xs))
+              ∙ ap (λ (r : List ℕ). take i xs ++ r) (sym the-stretch)
+              ∙ now .joined;
+        }
+
+  pub stretch-done : {start : ℕ} {xs₀ xs : List ℕ} {before i : ℕ} → Stretched test change end start xs₀ xs before i → length xs ≤ i → xs ≡ stretches test change start end xs₀
+  stretch-done {start} {xs₀} {xs} {before} {i} now past =
+      sym (append-nil xs)
+      ∙ (rw (take-all i xs past, drop-of-length-le xs past, stretches-nil test change end before) at (now .joined))

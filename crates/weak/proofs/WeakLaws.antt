@@ -64,6 +64,11 @@ unfolding W7 changeW7 strongW7 sweep
 W7-sweep strong [] = refl
 W7-sweep strong (t ∷ ts) = ap (λ (r : List ℕ). changeW7 strong t ∷ r) (W7-sweep (strongW7 strong t) ts)
 
+-- the rules one after the other, each on what the one before left
+pub weak-in-turn : (sor eor : ℕ) (ts : List ℕ) {t₁ t₂ t₃ t₄ t₅ t₆ t₇ : List ℕ} → t₁ ≡ W1 sor ts → t₂ ≡ W2 sor t₁ → t₃ ≡ W3 t₂ → t₄ ≡ W4 sor eor t₃ → t₅ ≡ W5 sor eor t₄ → t₆ ≡ W6 t₅ → t₇ ≡ W7 sor t₆ → t₇ ≡ weak sor eor ts
+unfolding weak
+weak-in-turn sor eor ts p₁ p₂ p₃ p₄ p₅ p₆ p₇ = cc
+
 pub length-weak : (sor eor : ℕ) (ts : List ℕ) → length (weak sor eor ts) ≡ length ts
 unfolding weak W5
 length-weak sor eor ts = simp (W1-sweep, W2-sweep, W3-sweep, W4-sweep, W6-sweep, W7-sweep, length-sweep, length-stretches)

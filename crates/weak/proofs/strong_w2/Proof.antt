@@ -4,7 +4,6 @@ use borrow.Author.Needs.{needs}
 use Rattle.weak.specs.Steps.{strongW2}
 use Rattle.weak.proofs.strong_w2.Statement.{statement}
 use Rattle.weak.proofs.strong_w2.Tie as tie
-use Rattle.classes.proofs.is_strong.Reads as is-strong-reads
 
 is-strong-requires : tie.Need-is-strong-requires
 is-strong-requires c κs = search needs

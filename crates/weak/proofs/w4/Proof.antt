@@ -1,60 +1,57 @@
+-- `weak::w4` meets its contract: it is a sweep that carries the type before as it was and looks at the next one.
+-- The measure is what is left of the length. Assumes nothing.
+use Prim.Native.Nat.{_-_}
+use mathlib.Core.Path.{refl, sym, ap, _∙_}
+use lib.ListN.{length, getD}
+use Rattle.rules.specs.Weak.{changeW4}
+use Rattle.rules.proofs.Passes.{Swept, sweep-begun, sweep-step-in-place, sweep-done}
+use Rattle.weak.proofs.WeakLaws.{W4-sweep}
 use borrow.Author.Needs.{needs}
 use Rattle.weak.proofs.w4.Statement.{statement}
 use Rattle.weak.proofs.w4.Tie as tie
-use Rattle.weak.proofs.w4.Reads as reads
-use Rattle.weak.proofs.w4.Lts as lts
-use Rattle.parts.proofs.type_at.Reads as type-at-reads
-use Rattle.weak.proofs.change_w4.Reads as change-w4-reads
 
 abbrev Inv-loop : tie.InvT-loop
-Inv-loop types₀ sor eor before₀ i₀ types before i = ?
+Inv-loop types₀ sor eor before₀ i₀ types before i = Swept changeW4 (λ s t. t) eor sor types₀ types types before i
 
 abbrev μ-loop : tie.MeasureT-loop
-μ-loop types₀ sor eor before₀ i₀ types before i = ?
+μ-loop types₀ sor eor before₀ i₀ types before i = length types₀ - i
 
--- src/lib.rt:115:5
 loop-holds : tie.Need-loop-holds Inv-loop μ-loop
-loop-holds c = search needs
+loop-holds c = sweep-begun _ _ _ refl
 
--- src/lib.rt:116:17
 slice-read-t : tie.Need-slice-read-t Inv-loop μ-loop
 slice-read-t c = search needs
 
--- src/lib.rt:117:42
 add-type-at : tie.Need-add-type-at Inv-loop μ-loop
 add-type-at c = search needs
 
--- src/lib.rt:117:13
 type-at-requires : tie.Need-type-at-requires Inv-loop μ-loop
 type-at-requires c κs = search needs
 
--- src/lib.rt:118:20
 change-w4-requires : tie.Need-change-w4-requires Inv-loop μ-loop
 change-w4-requires c κs = search needs
 
--- src/lib.rt:118:9
 slice-write-types : tie.Need-slice-write-types Inv-loop μ-loop
 slice-write-types c = search needs
 
--- src/lib.rt:120:9
 add-i : tie.Need-add-i Inv-loop μ-loop
 add-i c = search needs
 
--- src/lib.rt:115:5
 loop-less : tie.Need-loop-less Inv-loop μ-loop
 loop-less c = search needs
 
--- src/lib.rt:115:5
 loop-again : tie.Need-loop-again Inv-loop μ-loop
-loop-again c = search needs
+loop-again c =
+    let at = c .before .before .before .before in
+    sweep-step-in-place (at .before .loop .inv) (at .loop-test .taken)
+    (c .change-w4 .ensures ∙ ap (changeW4 (at .before .loop .before) (getD (at .before .loop .types) (at .before .loop .i) 0)) (c .before .type-at .ensures))
+    refl
 
--- src/lib.rt:110:1
 same-length : tie.Need-same-length Inv-loop μ-loop
 same-length c = search needs
 
--- src/lib.rt:110:1
 returns : tie.Need-returns Inv-loop μ-loop
-returns c = search needs
+returns c = sweep-done (c .before .loop .inv) (c .loop-test .left) ∙ sym (W4-sweep _ _ _)
 
 pub w4-spec : {M : Type 1} → statement M
 w4-spec =
