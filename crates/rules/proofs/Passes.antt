@@ -145,16 +145,16 @@ span-past test xs i h =
     let e : span test (drop i xs) ≡ 0 = rw (drop-of-length-le xs h) (span-nil test) in
     omega arith
 
--- a stretch under way ends within the list, and behind its first place
-pub span-end : (test : ℕ → Bool) (xs : List ℕ) (i e : ℕ) → i ≤ length xs → e ≡ i + span test (drop i xs) → (i ≤ e) × (e ≤ length xs)
+-- a stretch ends within the list; one that begins at i, behind i
+span-end : (test : ℕ → Bool) (xs : List ℕ) (i e : ℕ) → i ≤ length xs → e ≡ i + span test (drop i xs) → (i ≤ e) × (e ≤ length xs)
 span-end test xs i e h is =
     let w : span test (drop i xs) ≤ length xs - i = rw (length-drop i xs) at (span-within test (drop i xs)) in
     (omega arith, omega arith)
 
-pub span-begun : (test : ℕ → Bool) (xs : List ℕ) (i e : ℕ) → i < length xs → test (getD xs i 0) ≡ true → e ≡ i + span test (drop i xs) → i < e
-span-begun test xs i e h holds is =
+pub span-found : (test : ℕ → Bool) (xs : List ℕ) (i e : ℕ) → i < length xs → test (getD xs i 0) ≡ true → e ≡ i + span test (drop i xs) → (i < e) × (e ≤ length xs)
+span-found test xs i e h holds is =
     let f : i + span test (drop i xs) ≡ i + 1 + span test (drop (i + 1) xs) = span-further test xs i h holds in
-    omega arith
+    (omega arith, span-end test xs i e (omega arith) is .1)
 
 after-here : (test : ℕ → Bool) (end t : ℕ) (ts : List ℕ) → test t ≡ true → afterStretch test end (t ∷ ts) ≡ afterStretch test end ts
 unfolding afterStretch
@@ -207,6 +207,22 @@ module _ (test : ℕ → Bool) (change : ℕ → ℕ → ℕ → ℕ) (end : ℕ
       ∙ ap (λ (r : List ℕ). v ∷ r) (filled before v ts (λ u h. ap (λ (n : ℕ). change before n u) (sym (after-here test end t ts holds)) ∙ same u h))
       ∙ ap (λ (n : ℕ). replicate n v ++ stretches test change before end (drop n (t ∷ ts))) (sym (span-here test t ts holds)))
       (λ fails. rw (span-none test t ts fails))
+
+-- a second change of every type, one that keeps what stands outside the stretches, joins the first
+pub map-stretches : (f : ℕ → ℕ) (test : ℕ → Bool) (change : ℕ → ℕ → ℕ → ℕ) (end : ℕ) → ((t : ℕ) → test t ≡ false → f t ≡ t) → (before : ℕ) (ts : List ℕ) → map f (stretches test change before end ts) ≡ stretches test (λ b n t. f (change b n t)) before end ts
+map-stretches f test change end keeps before [] =
+    ap (map f) (stretches-nil test change end before) ∙ sym (stretches-nil test (λ b n t. f (change b n t)) end before)
+map-stretches f test change end keeps before (t ∷ ts) =
+    by-test (test t)
+    (λ holds.
+    ap (map f) (stretches-here test change end before t ts holds)
+    ∙ ap (λ (r : List ℕ). f (change before (afterStretch test end ts) t) ∷ r) (map-stretches f test change end keeps before ts)
+    ∙ sym (stretches-here test (λ b n u. f (change b n u)) end before t ts holds))
+    (λ fails.
+    ap (map f) (stretches-over test change end before t ts fails)
+    ∙ ap (λ (x : ℕ). x ∷ map f (stretches test change t end ts)) (keeps t fails)
+    ∙ ap (λ (r : List ℕ). t ∷ r) (map-stretches f test change end keeps t ts)
+    ∙ sym (stretches-over test (λ b n u. f (change b n u)) end before t ts fails))
 
 -- what holds at the head of a loop that goes from stretch to stretch in place
 pub record Stretched (test : ℕ → Bool) (change : ℕ → ℕ → ℕ → ℕ) (end start : ℕ) (xs₀ xs : List ℕ) (before i : ℕ) : Type 0 where

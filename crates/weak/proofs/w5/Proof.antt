@@ -7,7 +7,7 @@ use mathlib.Core.Path.{refl, sym, ap, _∙_}
 use lib.ListN.{length, getD}
 use Rattle.rules.specs.Weak.{W5, isTerminator, changeW5}
 use Rattle.rules.specs.Classes.{ET}
-use Rattle.rules.proofs.Passes.{Stretched, stretch-begun, stretch-over, stretch-filled, stretch-done, span-end, span-begun}
+use Rattle.rules.proofs.Passes.{Stretched, stretch-begun, stretch-over, stretch-filled, stretch-done, span-found}
 use Rattle.weak.proofs.WeakLaws.{W5-same}
 use borrow.Author.Needs.{needs}
 use Rattle.weak.proofs.w5.Statement.{statement}
@@ -19,14 +19,11 @@ Inv-loop types₀ sor eor before₀ i₀ types before i = Stretched isTerminator
 abbrev μ-loop : tie.MeasureT-loop
 μ-loop types₀ sor eor before₀ i₀ types before i = length types₀ - i
 
--- the stretch found ends within the run, and behind where it begins
-stretch-ends : (c : tie.After-terminators-end Inv-loop μ-loop) → (c .before .before .before .before .before .loop .i ≤ c .terminators-end .result) × (c .terminators-end .result ≤ length (c .before .before .before .before .before .loop .types))
-stretch-ends c = span-end isTerminator _ _ _ (omega arith) (c .terminators-end .ensures)
-
-stretch-begins : (c : tie.After-terminators-end Inv-loop μ-loop) → c .before .before .before .before .before .loop .i < c .terminators-end .result
+-- the stretch found ends behind where it begins, and within the run
+found : (c : tie.After-terminators-end Inv-loop μ-loop) → (c .before .before .before .before .before .loop .i < c .terminators-end .result) × (c .terminators-end .result ≤ length (c .before .before .before .before .before .loop .types))
 unfolding isTerminator
-stretch-begins c =
-    span-begun isTerminator _ _ _ (c .before .before .before .before .loop-test .taken) (eq-eqb _ _ (c .before .before .if1 .taken)) (c .terminators-end .ensures)
+found c =
+    span-found isTerminator _ _ _ (c .before .before .before .before .loop-test .taken) (eq-eqb _ _ (c .before .before .if1 .taken)) (c .terminators-end .ensures)
 
 loop-holds : tie.Need-loop-holds Inv-loop μ-loop
 loop-holds c = stretch-begun _ _
@@ -47,7 +44,7 @@ part-fill-start : tie.Need-part-fill-start Inv-loop μ-loop
 part-fill-start c = search needs
 
 part-fill-end : tie.Need-part-fill-end Inv-loop μ-loop
-part-fill-end c = stretch-ends (c .before .before) .1
+part-fill-end c = found (c .before .before) .1
 
 change-w5-requires : tie.Need-change-w5-requires Inv-loop μ-loop
 change-w5-requires c κs = search needs
@@ -58,7 +55,7 @@ fill-requires c κs = search needs
 loop-less : tie.Need-loop-less Inv-loop μ-loop
 loop-less c =
     let e = c .before .before .before .before .before .before .before in
-    omega (arith, stretch-begins e, stretch-ends e, e .before .before .before .before .before .loop .inv .long)
+    omega (arith, found e, e .before .before .before .before .before .loop .inv .long)
 
 loop-again : tie.Need-loop-again Inv-loop μ-loop
 loop-again c =
