@@ -1,3 +1,4 @@
 -- Laws that every crate above cites.
 pub mod Tests
 pub mod Lists
+pub mod Passes

@@ -1,0 +1,110 @@
+-- `neutral::resolve_neutrals` meets its contract: it goes from stretch to stretch of neutrals, with both rules' change.
+-- The measure is what is left of the length. Assumes nothing.
+use Prim.Native.Nat.{_-_, _≤_, _<_}
+use native.Mathlib.Omega.{arith}
+use mathlib.Core.Path.{sym, ap, _∙_}
+use lib.ListN.{length}
+use Rattle.rules.specs.Classes.{ON, isNeutral}
+use Rattle.rules.specs.Neutral.{changeN1, changeN2}
+use Rattle.rules.proofs.Passes.{Stretched, stretch-begun, stretch-over, stretch-filled, stretch-done, span-found}
+use Rattle.neutral.proofs.NeutralLaws.{N-same, N1-N2}
+use borrow.Author.Needs.{needs}
+use Rattle.neutral.proofs.resolve_neutrals.Statement.{statement}
+use Rattle.neutral.proofs.resolve_neutrals.Tie as tie
+
+abbrev Inv-loop : tie.InvT-loop
+Inv-loop types₀ level sor eor before₀ i₀ types before i = Stretched isNeutral (λ b n t. changeN2 level (changeN1 b n t)) eor sor types₀ types before i
+
+abbrev μ-loop : tie.MeasureT-loop
+μ-loop types₀ level sor eor before₀ i₀ types before i = length types₀ - i
+
+-- the stretch found ends behind where it begins, and within the run
+found : (c : tie.After-neutrals-end Inv-loop μ-loop) → (c .before .before .before .before .before .before .loop .i < c .neutrals-end .result) × (c .neutrals-end .result ≤ length (c .before .before .before .before .before .before .loop .types))
+found c =
+    let at = c .before .before .before in
+    span-found isNeutral _ _ _ (at .before .before .loop-test .taken) (sym (at .is-neutral .ensures) ∙ c .before .before .if1 .taken) (c .neutrals-end .ensures)
+
+loop-holds : tie.Need-loop-holds Inv-loop μ-loop
+loop-holds c = stretch-begun _ _
+
+slice-read-t : tie.Need-slice-read-t Inv-loop μ-loop
+slice-read-t c = search needs
+
+is-neutral-requires : tie.Need-is-neutral-requires Inv-loop μ-loop
+is-neutral-requires c κs = search needs
+
+neutrals-end-requires : tie.Need-neutrals-end-requires Inv-loop μ-loop
+neutrals-end-requires c κs = search needs
+
+type-at-requires : tie.Need-type-at-requires Inv-loop μ-loop
+type-at-requires c κs = search needs
+
+sub-fill : tie.Need-sub-fill Inv-loop μ-loop
+sub-fill c = search needs
+
+part-fill-start : tie.Need-part-fill-start Inv-loop μ-loop
+part-fill-start c = search needs
+
+part-fill-end : tie.Need-part-fill-end Inv-loop μ-loop
+part-fill-end c = found (c .before .before) .1
+
+change-neutral-requires : tie.Need-change-neutral-requires Inv-loop μ-loop
+change-neutral-requires c κs = search needs
+
+fill-requires : tie.Need-fill-requires Inv-loop μ-loop
+fill-requires c κs = search needs
+
+loop-less : tie.Need-loop-less Inv-loop μ-loop
+loop-less c =
+    let e = c .before .before .before .before .before .before .before in
+    omega (arith, found e, e .before .before .before .before .before .before .loop .inv .long)
+
+loop-again : tie.Need-loop-again Inv-loop μ-loop
+loop-again c =
+    let e = c .before .before .before .before .before .before .before in
+    let at = e .before .before .before .before .before .before in
+    let level = at .before .before .args .level in
+    stretch-filled (at .loop .inv) (e .neutrals-end .ensures)
+    (λ t is. N-same level _ _ t is ∙ ap (λ n. changeN2 level (changeN1 (at .loop .before) n ON)) (sym (c .before .before .before .before .before .type-at .ensures)) ∙ sym (c .before .before .before .change-neutral .ensures))
+    (c .before .before .fill .ensures)
+
+add-i : tie.Need-add-i Inv-loop μ-loop
+add-i c = search needs
+
+loop-less-2 : tie.Need-loop-less-2 Inv-loop μ-loop
+loop-less-2 c = search needs
+
+loop-again-2 : tie.Need-loop-again-2 Inv-loop μ-loop
+loop-again-2 c =
+    let at = c .before .before .before in
+    stretch-over (at .before .loop .inv) (at .loop-test .taken) (sym (c .before .is-neutral .ensures) ∙ c .if1 .left)
+
+same-length : tie.Need-same-length Inv-loop μ-loop
+same-length c = search needs
+
+returns : tie.Need-returns Inv-loop μ-loop
+returns c = stretch-done (c .before .loop .inv) (c .loop-test .left) ∙ sym (N1-N2 _ _ _ _)
+
+pub resolve-neutrals-spec : {M : Type 1} → statement M
+resolve-neutrals-spec =
+    tie.close
+    (tie.spec
+    Inv-loop
+    μ-loop
+    loop-holds
+    slice-read-t
+    is-neutral-requires
+    neutrals-end-requires
+    type-at-requires
+    sub-fill
+    part-fill-start
+    part-fill-end
+    change-neutral-requires
+    fill-requires
+    loop-less
+    loop-again
+    add-i
+    loop-less-2
+    loop-again-2
+    same-length
+    returns)

@@ -1,0 +1,141 @@
+// Neutral types and implicit levels: rules N1 and N2, I1 and I2 on one run.
+ghost use mathlib.Core.Path.{_≡_};
+ghost use mathlib.Core.List.{map};
+ghost use Prim.Native.Nat.{_+_, _≤_};
+ghost use lib.ListN.{length, drop};
+ghost use Rattle.rules.specs.Classes.{isNeutral, ON};
+ghost use Rattle.rules.specs.Neutral.{direction, levelDirection, changeN1, changeN2, N1, N2};
+ghost use Rattle.rules.specs.Implicit.{I1, I2, implicitLevel};
+ghost use Rattle.rules.proofs.Passes.{span};
+
+fn direction(t: u8) -> u8
+    ensures { λ r. ⌜ r ≡ direction t ⌝ }
+{
+    if t == classes::EN {
+        return classes::R;
+    }
+    if t == classes::AN {
+        return classes::R;
+    }
+    t
+}
+
+fn level_direction(level: u8) -> u8
+    ensures { λ r. ⌜ r ≡ levelDirection level ⌝ }
+{
+    if level % 2 == 1 {
+        return classes::R;
+    }
+    classes::L
+}
+
+fn change_n2(level: u8, t: u8) -> u8
+    ensures { λ r. ⌜ r ≡ changeN2 level t ⌝ }
+{
+    if classes::is_neutral(t) {
+        return level_direction(level);
+    }
+    t
+}
+
+// What N2 after N1 makes of a stretch of neutrals between two types, whichever neutrals they are.
+fn change_neutral(level: u8, before: u8, next: u8) -> u8
+    ensures { λ r. ⌜ r ≡ changeN2 level (changeN1 before next ON) ⌝ }
+{
+    let d = direction(before);
+    if d == direction(next) {
+        return change_n2(level, d);
+    }
+    level_direction(level)
+}
+
+// Where a stretch of neutrals ends that holds `from`; `from` itself where there is none.
+fn neutrals_end(types: &[u8], from: usize) -> usize
+    ensures { λ r. ⌜ r ≡ from + span isNeutral (drop from (now (types .entry))) ⌝ }
+{
+    let mut i = from;
+    while i < types.len() {
+        let t = types[i];
+        if classes::is_neutral(t) {
+            i += 1;
+        } else {
+            return i;
+        }
+    }
+    i
+}
+
+// Both rules in one pass. A stretch's end is sought once, from its first place: the pass stays linear.
+pub fn resolve_neutrals(types: &mut [u8], level: u8, sor: u8, eor: u8)
+    ensures { λ _. ⌜ now (types .exit) ≡ N2 level (N1 sor eor (now (types .entry))) ⌝ }
+{
+    let mut before = sor;
+    let mut i = 0;
+    while i < types.len() {
+        let t = types[i];
+        if classes::is_neutral(t) {
+            let end = neutrals_end(types, i);
+            let next = parts::type_at(types, end, eor);
+            parts::fill(&mut types[i..end], change_neutral(level, before, next));
+            i = end;
+        } else {
+            before = t;
+            i += 1;
+        }
+    }
+}
+
+fn i1(level: u8, t: u8) -> u8
+    requires { ⌜ level ≤ 61 ⌝ }
+    ensures { λ r. ⌜ r ≡ I1 level t ⌝ }
+{
+    if t == classes::R {
+        return level + 1;
+    }
+    if t == classes::EN {
+        return level + 2;
+    }
+    if t == classes::AN {
+        return level + 2;
+    }
+    level
+}
+
+fn i2(level: u8, t: u8) -> u8
+    requires { ⌜ level ≤ 61 ⌝ }
+    ensures { λ r. ⌜ r ≡ I2 level t ⌝ }
+{
+    if t == classes::L {
+        return level + 1;
+    }
+    if t == classes::EN {
+        return level + 1;
+    }
+    if t == classes::AN {
+        return level + 1;
+    }
+    level
+}
+
+// The one step from a run's level and a type to the level.
+fn implicit_level(level: u8, t: u8) -> u8
+    requires { ⌜ level ≤ 61 ⌝ }
+    ensures { λ r. ⌜ r ≡ implicitLevel level t ⌝ }
+{
+    if level % 2 == 1 {
+        return i2(level, t);
+    }
+    i1(level, t)
+}
+
+pub fn implicit_levels(types: &[u8], level: u8, levels: &mut [u8])
+    requires { ⌜ length (now types) ≡ length (now levels) ⌝ }
+    requires { ⌜ level ≤ 61 ⌝ }
+    ensures { λ _. ⌜ now (levels .exit) ≡ map (implicitLevel level) (now (types .entry)) ⌝ }
+{
+    let mut i = 0;
+    while i < types.len() {
+        levels[i] = implicit_level(level, types[i]);
+        i += 1;
+    }
+}

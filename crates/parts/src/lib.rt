@@ -1,0 +1,23 @@
+// What the rules on stretches of types share, over plain slices.
+ghost use mathlib.Core.Path.{_≡_};
+ghost use lib.ListN.{length, getD, replicate};
+
+// The type at `i`; past the end, what stands there for a run: its end type.
+pub fn type_at(types: &[u8], i: usize, end: u8) -> u8
+    ensures { λ r. ⌜ r ≡ getD (now (types .entry)) i end ⌝ }
+{
+    if i < types.len() {
+        return types[i];
+    }
+    end
+}
+
+pub fn fill(part: &mut [u8], t: u8)
+    ensures { λ _. ⌜ now (part .exit) ≡ replicate (length (now (part .entry))) t ⌝ }
+{
+    let mut i = 0;
+    while i < part.len() {
+        part[i] = t;
+        i += 1;
+    }
+}

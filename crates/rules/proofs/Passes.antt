@@ -1,0 +1,291 @@
+-- The passes over the types of a run, each proved once over its step: a sweep goes from type to type and carries
+-- one value, a filling pass goes from stretch to stretch. Each has what holds at the loop's head as a record, and
+-- laws over plain lists: begun, one step further, done.
+-- Assumes nothing.
+use Prim.Native.Nat.{ℕ, zero, suc, _+_, _-_, _≤_, _<_}
+use native.Mathlib.Nat.{le-of-suc-le-suc, not-suc-le-zero}
+use native.Mathlib.Omega.{arith}
+use mathlib.Core.Bool.{Bool, true, false}
+use mathlib.Core.Path.{_≡_, refl, sym, ap, subst, _∙_}
+use mathlib.Core.List.{List, [], _∷_, _++_, map, append-nil, append-assoc}
+use lib.ListN.{length, getD, take, drop, set, replicate, length-append, length-set, length-take, length-drop, length-replicate, drop-of-length-le}
+use lib.Seq.{take-all, drop-nil, getD-drop, drop-drop, take-at, drop-at, length-take-le}
+use borrow.Rule.Slice.PartMut.{midOf, postOf, putMid, same-len-mid, mid-len, drop-put}
+use Rattle.rules.specs.Choice.{if_then_else_, headOr}
+use Rattle.rules.specs.Weak.{afterStretch, stretches}
+use Rattle.rules.proofs.Lists.{take-set-next, drop-next, drop-set-next, take-next}
+
+-- what comes first of what is left is what stands at that place
+pub head-drop : (end : ℕ) (xs : List ℕ) (i : ℕ) → headOr end (drop i xs) ≡ getD xs i end
+head-drop end [] i = ap (headOr end) (drop-nil i)
+head-drop end (x ∷ xs) zero = refl
+head-drop end (x ∷ xs) (suc i) = head-drop end xs i
+
+-- within the list it does not matter what would stand past its end
+pub getD-within : (xs : List ℕ) (i d e : ℕ) → i < length xs → getD xs i d ≡ getD xs i e
+getD-within [] i d e h = absurd (not-suc-le-zero h)
+getD-within (x ∷ xs) zero d e h = refl
+getD-within (x ∷ xs) (suc i) d e h = getD-within xs i d e (le-of-suc-le-suc h)
+
+-- ---- Sweeps: W1 to W4, W6, W7 and the implicit levels
+
+-- a type is written anew by the value carried, itself and the next one, `end` where there is none
+unfoldable pub sweep : (ℕ → ℕ → ℕ → ℕ) → (ℕ → ℕ → ℕ) → ℕ → ℕ → List ℕ → List ℕ
+sweep write carry end s [] = []
+sweep write carry end s (t ∷ ts) = write s t (headOr end ts) ∷ sweep write carry end (carry s t) ts
+
+pub length-sweep : (write : ℕ → ℕ → ℕ → ℕ) (carry : ℕ → ℕ → ℕ) (end s : ℕ) (ts : List ℕ) → length (sweep write carry end s ts) ≡ length ts
+unfolding sweep
+length-sweep write carry end s [] = refl
+length-sweep write carry end s (t ∷ ts) = ap suc (length-sweep write carry end (carry s t) ts)
+
+sweep-nil : (write : ℕ → ℕ → ℕ → ℕ) (carry : ℕ → ℕ → ℕ) (end s : ℕ) → sweep write carry end s [] ≡ []
+unfolding sweep
+sweep-nil write carry end s = refl
+
+sweep-cons : (write : ℕ → ℕ → ℕ → ℕ) (carry : ℕ → ℕ → ℕ) (end s t : ℕ) (ts : List ℕ) → sweep write carry end s (t ∷ ts) ≡ write s t (headOr end ts) ∷ sweep write carry end (carry s t) ts
+unfolding sweep
+sweep-cons write carry end s t ts = refl
+
+-- a map is a sweep that carries nothing
+pub map-sweep : (f : ℕ → ℕ) (ts : List ℕ) → map f ts ≡ sweep (λ s t n. f t) (λ s t. s) 0 0 ts
+unfolding sweep
+map-sweep f [] = refl
+map-sweep f (t ∷ ts) = ap (λ (r : List ℕ). f t ∷ r) (map-sweep f ts)
+
+-- one type at every place is a sweep that writes it
+pub replicate-sweep : (v : ℕ) (ts : List ℕ) → replicate (length ts) v ≡ sweep (λ s t n. v) (λ s t. s) 0 0 ts
+unfolding sweep
+replicate-sweep v [] = refl
+replicate-sweep v (t ∷ ts) = ap (λ (r : List ℕ). v ∷ r) (replicate-sweep v ts)
+
+sweep-next : (write : ℕ → ℕ → ℕ → ℕ) (carry : ℕ → ℕ → ℕ) (end : ℕ) (xs : List ℕ) (s i : ℕ) → i < length xs → sweep write carry end s (drop i xs) ≡ write s (getD xs i 0) (getD xs (i + 1) end) ∷ sweep write carry end (carry s (getD xs i 0)) (drop (i + 1) xs)
+sweep-next write carry end xs s i h =
+    ap (sweep write carry end s) (drop-next xs i h)
+    ∙ sweep-cons write carry end s (getD xs i 0) (drop (i + 1) xs)
+    ∙ ap (λ (n : ℕ). write s (getD xs i 0) n ∷ sweep write carry end (carry s (getD xs i 0)) (drop (i + 1) xs)) (head-drop end xs (i + 1))
+
+-- `xs` is read and `out` written, both up to i: what is written, then the sweep over what is left, is the sweep over all
+pub record Swept (write : ℕ → ℕ → ℕ → ℕ) (carry : ℕ → ℕ → ℕ) (end start : ℕ) (xs₀ xs out : List ℕ) (s i : ℕ) : Type 0 where
+  pub within : i ≤ length xs₀
+  pub read : length xs ≡ length xs₀
+  pub written : length out ≡ length xs₀
+  pub joined : take i out ++ sweep write carry end s (drop i xs) ≡ sweep write carry end start xs₀
+
+module _ {write : ℕ → ℕ → ℕ → ℕ} {carry : ℕ → ℕ → ℕ} {end : ℕ} where
+  pub sweep-begun : (start : ℕ) (xs out : List ℕ) → length out ≡ length xs → Swept write carry end start xs xs out start 0
+  sweep-begun start xs out long = record { within = omega arith; read = refl; written = long; joined = refl }
+
+  module _ {start : ℕ} {xs₀ xs out : List ℕ} {s i v s′ : ℕ} (now : Swept write carry end start xs₀ xs out s i) (below : i < length xs) (wrote : v ≡ write s (getD xs i 0) (getD xs (i + 1) end)) (carried : s′ ≡ carry s (getD xs i 0)) where
+    joined-next : take (i + 1) (set out i v) ++ sweep write carry end s′ (drop (i + 1) xs) ≡ sweep write carry end start xs₀
+    joined-next =
+        let room : i < length out = omega (arith, now .read, now .written) in
+        take-set-next out i v (sweep write carry end s′ (drop (i + 1) xs)) room
+        ∙ ap (λ (r : List ℕ). take i out ++ r) (rw (wrote, carried) (sym (sweep-next write carry end xs s i below)))
+        ∙ now .joined
+
+    pub sweep-step : Swept write carry end start xs₀ xs (set out i v) s′ (i + 1)
+    sweep-step = record { within = omega (arith, now .read); read = now .read; written = length-set out i v ∙ now .written; joined = joined-next }
+
+  -- in place: what is read is what is written
+  pub sweep-step-in-place : {start : ℕ} {xs₀ xs : List ℕ} {s i v s′ : ℕ} → Swept write carry end start xs₀ xs xs s i → i < length xs → v ≡ write s (getD xs i 0) (getD xs (i + 1) end) → s′ ≡ carry s (getD xs i 0) → Swept write carry end start xs₀ (set xs i v) (set xs i v) s′ (i + 1)
+  sweep-step-in-place {start} {xs₀} {xs} {s} {i} {v} {s′} now below wrote carried =
+      let next : Swept write carry end start xs₀ xs (set xs i v) s′ (i + 1) = sweep-step now below wrote carried in
+      record { within = next .within; read = next .written; written = next .written; joined = rw (drop-set-next xs i v) (next .joined) }
+
+  pub sweep-done : {start : ℕ} {xs₀ xs out : List ℕ} {s i : ℕ} → Swept write carry end start xs₀ xs out s i → length xs ≤ i → out ≡ sweep write carry end start xs₀
+  sweep-done {start} {xs₀} {xs} {out} {s} {i} now past =
+      let full : length out ≤ i = omega (arith, now .read, now .written) in
+      sym (append-nil out)
+      ∙ (rw (take-all i out full, drop-of-length-le xs past, sweep-nil write carry end s) at (now .joined))
+
+-- ---- Stretches: W5, N1 with N2
+
+-- how many types that pass a test come first
+unfoldable pub span : (ℕ → Bool) → List ℕ → ℕ
+span test [] = 0
+span test (t ∷ ts) = if test t then suc (span test ts) else 0
+
+span-here : (test : ℕ → Bool) (t : ℕ) (ts : List ℕ) → test t ≡ true → span test (t ∷ ts) ≡ suc (span test ts)
+unfolding span
+span-here test t ts e = rw e
+
+span-none : (test : ℕ → Bool) (t : ℕ) (ts : List ℕ) → test t ≡ false → span test (t ∷ ts) ≡ 0
+unfolding span
+span-none test t ts e = rw e
+
+pub span-nil : (test : ℕ → Bool) → span test [] ≡ 0
+unfolding span
+span-nil test = refl
+
+-- a case split on a test, for the laws below
+pub by-test : {A : Type 0} (b : Bool) → (b ≡ true → A) → (b ≡ false → A) → A
+by-test true holds fails = holds refl
+by-test false holds fails = fails refl
+
+pub span-within : (test : ℕ → Bool) (ts : List ℕ) → span test ts ≤ length ts
+span-within test [] = rw (span-nil test) (omega arith)
+span-within test (t ∷ ts) =
+    let rest : span test ts ≤ length ts = span-within test ts in
+    by-test (test t) (λ holds. rw (span-here test t ts holds) (omega arith)) (λ fails. rw (span-none test t ts fails) (omega arith))
+
+-- the search for a stretch's end: one place further where the test holds, there where it fails or nothing is left
+pub span-further : (test : ℕ → Bool) (xs : List ℕ) (i : ℕ) → i < length xs → test (getD xs i 0) ≡ true → i + span test (drop i xs) ≡ i + 1 + span test (drop (i + 1) xs)
+span-further test xs i h holds =
+    let e : span test (drop i xs) ≡ suc (span test (drop (i + 1) xs)) = rw (drop-next xs i h) (span-here test (getD xs i 0) (drop (i + 1) xs) holds) in
+    omega arith
+
+pub span-there : (test : ℕ → Bool) (xs : List ℕ) (i : ℕ) → i < length xs → test (getD xs i 0) ≡ false → i + span test (drop i xs) ≡ i
+span-there test xs i h fails =
+    let e : span test (drop i xs) ≡ 0 = rw (drop-next xs i h) (span-none test (getD xs i 0) (drop (i + 1) xs) fails) in
+    omega arith
+
+pub span-past : (test : ℕ → Bool) (xs : List ℕ) (i : ℕ) → length xs ≤ i → i + span test (drop i xs) ≡ i
+span-past test xs i h =
+    let e : span test (drop i xs) ≡ 0 = rw (drop-of-length-le xs h) (span-nil test) in
+    omega arith
+
+-- a stretch ends within the list; one that begins at i, behind i
+span-end : (test : ℕ → Bool) (xs : List ℕ) (i e : ℕ) → i ≤ length xs → e ≡ i + span test (drop i xs) → (i ≤ e) × (e ≤ length xs)
+span-end test xs i e h is =
+    let w : span test (drop i xs) ≤ length xs - i = rw (length-drop i xs) at (span-within test (drop i xs)) in
+    (omega arith, omega arith)
+
+pub span-found : (test : ℕ → Bool) (xs : List ℕ) (i e : ℕ) → i < length xs → test (getD xs i 0) ≡ true → e ≡ i + span test (drop i xs) → (i < e) × (e ≤ length xs)
+span-found test xs i e h holds is =
+    let f : i + span test (drop i xs) ≡ i + 1 + span test (drop (i + 1) xs) = span-further test xs i h holds in
+    (omega arith, span-end test xs i e (omega arith) is .1)
+
+after-here : (test : ℕ → Bool) (end t : ℕ) (ts : List ℕ) → test t ≡ true → afterStretch test end (t ∷ ts) ≡ afterStretch test end ts
+unfolding afterStretch
+after-here test end t ts e = rw e
+
+after-none : (test : ℕ → Bool) (end t : ℕ) (ts : List ℕ) → test t ≡ false → afterStretch test end (t ∷ ts) ≡ t
+unfolding afterStretch
+after-none test end t ts e = rw e
+
+after-nil : (test : ℕ → Bool) (end : ℕ) → afterStretch test end [] ≡ end
+unfolding afterStretch
+after-nil test end = refl
+
+-- what stands after a stretch stands at its end
+pub after-span : (test : ℕ → Bool) (end : ℕ) (ts : List ℕ) → afterStretch test end ts ≡ getD ts (span test ts) end
+after-span test end [] = after-nil test end
+after-span test end (t ∷ ts) =
+    by-test (test t)
+    (λ holds. after-here test end t ts holds ∙ after-span test end ts ∙ ap (λ (n : ℕ). getD (t ∷ ts) n end) (sym (span-here test t ts holds)))
+    (λ fails. after-none test end t ts fails ∙ ap (λ (n : ℕ). getD (t ∷ ts) n end) (sym (span-none test t ts fails)))
+
+module _ (test : ℕ → Bool) (change : ℕ → ℕ → ℕ → ℕ) (end : ℕ) where
+  pub stretches-nil : (before : ℕ) → stretches test change before end [] ≡ []
+  unfolding stretches
+  stretches-nil before = refl
+
+  pub stretches-here : (before t : ℕ) (ts : List ℕ) → test t ≡ true → stretches test change before end (t ∷ ts) ≡ change before (afterStretch test end ts) t ∷ stretches test change before end ts
+  unfolding stretches
+  stretches-here before t ts e = rw e
+
+  pub stretches-over : (before t : ℕ) (ts : List ℕ) → test t ≡ false → stretches test change before end (t ∷ ts) ≡ t ∷ stretches test change t end ts
+  unfolding stretches
+  stretches-over before t ts e = rw e
+
+  pub length-stretches : (before : ℕ) (ts : List ℕ) → length (stretches test change before end ts) ≡ length ts
+  length-stretches before [] = ap length (stretches-nil before)
+  length-stretches before (t ∷ ts) =
+      by-test (test t)
+      (λ holds. ap length (stretches-here before t ts holds) ∙ ap suc (length-stretches before ts))
+      (λ fails. ap length (stretches-over before t ts fails) ∙ ap suc (length-stretches t ts))
+
+  -- where a change gives every type of the stretch the same one, the stretch is that type so many times
+  filled : (before v : ℕ) (ts : List ℕ) → ((t : ℕ) → test t ≡ true → change before (afterStretch test end ts) t ≡ v) → stretches test change before end ts ≡ replicate (span test ts) v ++ stretches test change before end (drop (span test ts) ts)
+  filled before v [] same = rw (span-nil test)
+  filled before v (t ∷ ts) same =
+      by-test (test t)
+      (λ holds.
+      stretches-here before t ts holds
+      ∙ ap (λ (x : ℕ). x ∷ stretches test change before end ts) (ap (λ (n : ℕ). change before n t) (sym (after-here test end t ts holds)) ∙ same t holds)
+      ∙ ap (λ (r : List ℕ). v ∷ r) (filled before v ts (λ u h. ap (λ (n : ℕ). change before n u) (sym (after-here test end t ts holds)) ∙ same u h))
+      ∙ ap (λ (n : ℕ). replicate n v ++ stretches test change before end (drop n (t ∷ ts))) (sym (span-here test t ts holds)))
+      (λ fails. rw (span-none test t ts fails))
+
+-- a second change of every type, one that keeps what stands outside the stretches, joins the first
+pub map-stretches : (f : ℕ → ℕ) (test : ℕ → Bool) (change : ℕ → ℕ → ℕ → ℕ) (end : ℕ) → ((t : ℕ) → test t ≡ false → f t ≡ t) → (before : ℕ) (ts : List ℕ) → map f (stretches test change before end ts) ≡ stretches test (λ b n t. f (change b n t)) before end ts
+map-stretches f test change end keeps before [] =
+    ap (map f) (stretches-nil test change end before) ∙ sym (stretches-nil test (λ b n t. f (change b n t)) end before)
+map-stretches f test change end keeps before (t ∷ ts) =
+    by-test (test t)
+    (λ holds.
+    ap (map f) (stretches-here test change end before t ts holds)
+    ∙ ap (λ (r : List ℕ). f (change before (afterStretch test end ts) t) ∷ r) (map-stretches f test change end keeps before ts)
+    ∙ sym (stretches-here test (λ b n u. f (change b n u)) end before t ts holds))
+    (λ fails.
+    ap (map f) (stretches-over test change end before t ts fails)
+    ∙ ap (λ (x : ℕ). x ∷ map f (stretches test change t end ts)) (keeps t fails)
+    ∙ ap (λ (r : List ℕ). t ∷ r) (map-stretches f test change end keeps t ts)
+    ∙ sym (stretches-over test (λ b n u. f (change b n u)) end before t ts fails))
+
+-- what holds at the head of a loop that goes from stretch to stretch in place
+pub record Stretched (test : ℕ → Bool) (change : ℕ → ℕ → ℕ → ℕ) (end start : ℕ) (xs₀ xs : List ℕ) (before i : ℕ) : Type 0 where
+  pub within : i ≤ length xs₀
+  pub long : length xs ≡ length xs₀
+  pub joined : take i xs ++ stretches test change before end (drop i xs) ≡ stretches test change start end xs₀
+
+module _ {test : ℕ → Bool} {change : ℕ → ℕ → ℕ → ℕ} {end : ℕ} where
+  pub stretch-begun : (start : ℕ) (xs : List ℕ) → Stretched test change end start xs xs start 0
+  stretch-begun start xs = record { within = omega arith; long = refl; joined = refl }
+
+  -- a type that fails the test stays, and is the one before what follows
+  pub stretch-over : {start : ℕ} {xs₀ xs : List ℕ} {before i : ℕ} → Stretched test change end start xs₀ xs before i → i < length xs → test (getD xs i 0) ≡ false → Stretched test change end start xs₀ xs (getD xs i 0) (i + 1)
+  stretch-over {start} {xs₀} {xs} {before} {i} now below fails =
+      record {
+        within = omega (arith, now .long);
+        long = now .long;
+        joined =
+            ap (λ (r : List ℕ). r ++ stretches test change (getD xs i 0) end (drop (i + 1) xs)) (take-next xs i below)
+            ∙ append-assoc (take i xs) (getD xs i 0 ∷ []) (stretches test change (getD xs i 0) end (drop (i + 1) xs))
+            ∙ ap (λ (r : List ℕ). take i xs ++ r) (sym (stretches-over test change end before (getD xs i 0) (drop (i + 1) xs) fails) ∙ ap (stretches test change before end) (sym (drop-next xs i below)))
+            ∙ now .joined;
+      }
+
+  -- a stretch that begins at i and ends at e is filled by what its change gives every type of it
+  module _ {start : ℕ} {xs₀ xs ys : List ℕ} {before i e v : ℕ} (now : Stretched test change end start xs₀ xs before i) (ends : e ≡ i + span test (drop i xs)) (same : (t : ℕ) → test t ≡ true → change before (getD xs e end) t ≡ v) (fill : ys ≡ replicate (length (midOf i (e - i) xs)) v) where
+    bounds : (i ≤ e) × (e ≤ length xs)
+    bounds = span-end test xs i e (omega (arith, now .within, now .long)) ends
+
+    the-fill : ys ≡ replicate (e - i) v
+    the-fill = fill ∙ ap (λ (n : ℕ). replicate n v) (mid-len i e xs (bounds .1))
+
+    length-fill : length ys ≡ e - i
+    length-fill = ap length the-fill ∙ length-replicate (e - i) v
+
+    take-fill : take e (putMid i (e - i) xs ys) ≡ take i xs ++ ys
+    take-fill =
+        let part : length (take i xs ++ ys) ≡ e = length-append (take i xs) ys ∙ omega (arith, length-take-le i xs (omega (arith, bounds)), length-fill, bounds) in
+        ap (take e) (sym (append-assoc (take i xs) ys (postOf i (e - i) xs))) ∙ take-at (take i xs ++ ys) (postOf i (e - i) xs) e part
+
+    the-stretch : stretches test change before end (drop i xs) ≡ ys ++ stretches test change before end (drop e xs)
+    the-stretch =
+        let size : span test (drop i xs) ≡ e - i = omega arith in
+        let there : i + (e - i) ≡ e = omega (arith, bounds) in
+        filled test change end before v (drop i xs) (λ t holds. ap (λ (n : ℕ). change before n t) (after-span test end (drop i xs) ∙ getD-drop i xs (span test (drop i xs)) end ∙ ap (λ (n : ℕ). getD xs n end) (sym ends)) ∙ same t holds)
+        ∙ ap (λ (n : ℕ). replicate n v ++ stretches test change before end (drop n (drop i xs))) size
+        ∙ ap (λ (r : List ℕ). replicate (e - i) v ++ stretches test change before end r) (drop-drop (e - i) i xs ∙ ap (λ (n : ℕ). drop n xs) there)
+        ∙ ap (λ (r : List ℕ). r ++ stretches test change before end (drop e xs)) (sym the-fill)
+
+    pub stretch-filled : Stretched test change end start xs₀ (putMid i (e - i) xs ys) before e
+    stretch-filled =
+        record {
+          within = omega (arith, bounds, now .long);
+          long = same-len-mid i (e - i) xs ys (length-fill ∙ sym (mid-len i e xs (bounds .1))) ∙ now .long;
+          joined =
+              ap (λ (r : List ℕ). r ++ stretches test change before end (drop e (putMid i (e - i) xs ys))) take-fill
+              ∙ ap (λ (r : List ℕ). (take i xs ++ ys) ++ stretches test change before end r) (drop-put i e xs ys (bounds .0) (bounds .1) length-fill)
+              ∙ append-assoc (take i xs) ys (stretches test change before end (drop e xs))
+              ∙ ap (λ (r : List ℕ). take i xs ++ r) (sym the-stretch)
+              ∙ now .joined;
+        }
+
+  pub stretch-done : {start : ℕ} {xs₀ xs : List ℕ} {before i : ℕ} → Stretched test change end start xs₀ xs before i → length xs ≤ i → xs ≡ stretches test change start end xs₀
+  stretch-done {start} {xs₀} {xs} {before} {i} now past =
+      sym (append-nil xs)
+      ∙ (rw (take-all i xs past, drop-of-length-le xs past, stretches-nil test change end before) at (now .joined))

@@ -1,0 +1,2 @@
+-- What holds of the weak rules.
+pub mod WeakLaws

@@ -1,0 +1,21 @@
+-- `weak::strong_w7` meets its contract: the tests on the way to each return decide `strongW7`. Assumes nothing.
+use borrow.Author.Needs.{needs}
+use Rattle.rules.proofs.Tests.{tests}
+use Rattle.weak.specs.Steps.{strongW7}
+use Rattle.weak.proofs.strong_w7.Statement.{statement}
+use Rattle.weak.proofs.strong_w7.Tie as tie
+
+returns : tie.Need-returns
+unfolding strongW7
+returns c = search (needs, tests)
+
+returns-2 : tie.Need-returns-2
+unfolding strongW7
+returns-2 c = search (needs, tests)
+
+returns-3 : tie.Need-returns-3
+unfolding strongW7
+returns-3 c = search (needs, tests)
+
+pub strong-w7-spec : {M : Type 1} → statement M
+strong-w7-spec = tie.close (tie.spec returns returns-2 returns-3)
