@@ -99,6 +99,10 @@ left-at-most {cs} {ls₀} {count} {ls} {i} {j} p =
     let l : keptIn (take i cs) ≤ length (take i cs) = kept-at-most (take i cs) in
     omega (arith, p .left, length-take i cs)
 
+-- the code counts down: i is one more than i - 1
+pub counted-down : {cs ls₀ : List ℕ} {count : ℕ} {ls : List ℕ} {i j : ℕ} → j < i → Placing cs ls₀ count ls i j → Placing cs ls₀ count ls (i - 1 + 1) j
+counted-down {cs} {ls₀} {count} {ls} {i} {j} h p = let e : i - 1 + 1 ≡ i = omega arith in rw e p
+
 -- one position back: i + 1 becomes i
 module _ (cs ls₀ : List ℕ) (count : ℕ) (ls : List ℕ) (i j : ℕ) (p : Placing cs ls₀ count ls (i + 1) j) where
   inside : i < length cs

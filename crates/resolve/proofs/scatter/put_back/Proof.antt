@@ -1,3 +1,8 @@
+use Rattle.resolve.proofs.ScatterLaws.{counted-down}
+use Prim.Native.Nat.{_-_}
+use native.Mathlib.Omega.{arith}
+use Rattle.rules.proofs.Tests.{known}
+use Rattle.resolve.proofs.ScatterLaws.{Placing, placing-begun, left-at-most, place-removed, some-left, place-kept, placing-done}
 use borrow.Author.Needs.{needs}
 use Rattle.resolve.proofs.scatter.put_back.Statement.{statement}
 use Rattle.resolve.proofs.scatter.put_back.Tie as tie
@@ -6,14 +11,14 @@ use Rattle.resolve.proofs.scatter.put_back.Lts as lts
 use Rattle.classes.proofs.is_removed.Reads as is-removed-reads
 
 abbrev Inv-loop : tie.InvT-loop
-Inv-loop classes levels₀ count i₀ j₀ levels i j = ?
+Inv-loop classes levels₀ count i₀ j₀ levels i j = Placing classes levels₀ count levels i j
 
 abbrev μ-loop : tie.MeasureT-loop
-μ-loop classes levels₀ count i₀ j₀ levels i j = ?
+μ-loop classes levels₀ count i₀ j₀ levels i j = i
 
 -- src/scatter.rt:18:5
 loop-holds : tie.Need-loop-holds Inv-loop μ-loop
-loop-holds c = search needs
+loop-holds c = placing-begun _ _ _ (c .before .before .pre .0) (c .before .before .pre .1)
 
 -- src/scatter.rt:19:9
 sub-i : tie.Need-sub-i Inv-loop μ-loop
@@ -37,11 +42,11 @@ loop-less c = search needs
 
 -- src/scatter.rt:18:5
 loop-again : tie.Need-loop-again Inv-loop μ-loop
-loop-again c = search needs
+loop-again c = place-removed _ _ _ _ _ _ (counted-down (c .before .before .before .loop-test .taken) (c .before .before .before .before .loop .inv)) (known (c .before .is-removed .ensures) (c .if1 .taken))
 
 -- src/scatter.rt:23:13
 sub-j : tie.Need-sub-j Inv-loop μ-loop
-sub-j c = search needs
+sub-j c = some-left _ _ _ _ _ _ (counted-down (c .before .before .before .loop-test .taken) (c .before .before .before .before .loop .inv)) (known (c .before .is-removed .ensures) (c .if1 .left))
 
 -- src/scatter.rt:24:25
 slice-read-levels : tie.Need-slice-read-levels Inv-loop μ-loop
@@ -57,7 +62,7 @@ loop-less-2 c = search needs
 
 -- src/scatter.rt:18:5
 loop-again-2 : tie.Need-loop-again-2 Inv-loop μ-loop
-loop-again-2 c = search needs
+loop-again-2 c = place-kept _ _ _ _ _ _ (counted-down (c .before .before .before .before .loop-test .taken) (c .before .before .before .before .before .loop .inv)) (known (c .before .before .is-removed .ensures) (c .before .if1 .left))
 
 -- src/scatter.rt:11:1
 same-length : tie.Need-same-length Inv-loop μ-loop
@@ -65,7 +70,7 @@ same-length c = search needs
 
 -- src/scatter.rt:11:1
 returns : tie.Need-returns Inv-loop μ-loop
-returns c = search needs
+returns c = placing-done _ _ _ _ _ _ (c .before .loop .inv) (c .loop-test .left)
 
 pub put-back-spec : {M : Type 1} → statement M
 put-back-spec =
