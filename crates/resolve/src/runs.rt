@@ -1,9 +1,10 @@
 // X10: the runs, and the types at their boundaries.
 ghost use mathlib.Core.Path.{_≡_};
-ghost use Prim.Native.Nat.{_<_};
-ghost use lib.ListN.{length};
+ghost use Prim.Native.Nat.{ℕ, _<_, _≤_};
+ghost use lib.ListN.{length, getD};
 ghost use Rattle.rules.specs.Neutral.{levelDirection};
 ghost use Rattle.rules.specs.Runs.{boundaryType};
+ghost use Rattle.rules.specs.Resolve.{resolveRun, resolveKept};
 ghost use Rattle.resolve.specs.RunEnd.{RunEnd};
 
 // The end of the run that begins at `from`. `i` is the last position known to belong to it.
@@ -39,4 +40,35 @@ pub(crate) fn boundary_type(level: u8, other: u8) -> u8
         return level_direction(other);
     }
     level_direction(level)
+}
+
+// W, N and I on one run.
+pub(crate) fn resolve_run(types: &mut [u8], levels: &mut [u8], level: u8, sor: u8, eor: u8)
+    requires { ⌜ length (now types) ≡ length (now levels) ⌝ }
+    requires { ⌜ level ≤ 61 ⌝ }
+    ensures { λ _. ⌜ now (levels .exit) ≡ resolveRun level sor eor (now (types .entry)) ⌝ }
+{
+    weak::weak(types, sor, eor);
+    neutral::resolve_neutrals(types, level, sor, eor);
+    neutral::implicit_levels(types, level, levels);
+}
+
+// Each run in turn. `before` is the level of the run before it, at first the base.
+pub(crate) fn resolve_kept(types: &mut [u8], levels: &mut [u8], base: u8)
+    requires { ⌜ length (now types) ≡ length (now levels) ⌝ }
+    requires { ⌜ ((k : ℕ) → getD (now levels) k 0 ≤ 61) ⌝ }
+    ensures { λ _. ⌜ now (levels .exit) ≡ resolveKept base (now (levels .entry)) (now (types .entry)) ⌝ }
+{
+    let mut before = base;
+    let mut i = 0;
+    while i < levels.len() {
+        let level = levels[i];
+        let end = run_end(levels, i);
+        let next = parts::type_at(levels, end, base);
+        let sor = boundary_type(before, level);
+        let eor = boundary_type(level, next);
+        resolve_run(&mut types[i..end], &mut levels[i..end], level, sor, eor);
+        before = level;
+        i = end;
+    }
 }

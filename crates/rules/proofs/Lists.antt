@@ -7,8 +7,9 @@ use native.Mathlib.Omega.{arith}
 use mathlib.Core.Path.{_≡_, refl, sym, ap, subst, _∙_}
 use mathlib.Core.Logic.{_⊎_, inl, inr}
 use mathlib.Core.List.{List, [], _∷_, _++_, append-assoc}
-use lib.ListN.{length, getD, take, drop, set, length-append, length-drop}
-use lib.Seq.{take-suc-set, drop-cons, drop-set-lt, take-suc, drop-drop}
+use lib.ListN.{length, getD, take, drop, set, length-append}
+use lib.Seq.{take-suc-set, drop-cons, drop-set-lt, take-suc, length-take-le, take-at}
+use borrow.Rule.Slice.PartMut.{postOf, putMid}
 
 -- what is written at i joins what was written before it
 pub take-set-next : (out : List ℕ) (i v : ℕ) (rest : List ℕ) → i < length out → take (i + 1) (set out i v) ++ rest ≡ take i out ++ (v ∷ rest)
@@ -36,3 +37,9 @@ le-or-lt (suc a) (suc b) = up (le-or-lt a b)
     up : (a ≤ b) ⊎ (b < a) → (suc a ≤ suc b) ⊎ (suc b < suc a)
     up (inl h) = inl (suc-le-suc h)
     up (inr h) = inr (suc-le-suc h)
+
+-- a part that was lent and is back: up to its end, what stood before it and then what is in its place now
+pub take-put-end : (xs ys : List ℕ) (i e : ℕ) → i ≤ e → e ≤ length xs → length ys ≡ e - i → take e (putMid i (e - i) xs ys) ≡ take i xs ++ ys
+take-put-end xs ys i e h g l =
+    let long : length (take i xs ++ ys) ≡ e = length-append (take i xs) ys ∙ omega (arith, length-take-le i xs (omega arith)) in
+    ap (take e) (sym (append-assoc (take i xs) ys (postOf i (e - i) xs))) ∙ take-at (take i xs ++ ys) (postOf i (e - i) xs) e long
