@@ -2,19 +2,34 @@
 ghost use mathlib.Core.Path.{_≡_};
 ghost use mathlib.Core.List.{map};
 ghost use Prim.Native.Nat.{_+_, _≤_};
+ghost use mathlib.Core.Bool.{_||_};
+ghost use lib.Dec.{eqb};
 ghost use lib.ListN.{length, drop};
-ghost use Rattle.rules.specs.Classes.{isNeutral, ON};
+ghost use Rattle.rules.specs.Choice.{isOdd};
+ghost use Rattle.rules.specs.Classes.{isNeutral, EN, AN, ON};
 ghost use Rattle.rules.specs.Neutral.{direction, levelDirection, changeN1, changeN2, N1, N2};
 ghost use Rattle.rules.specs.Implicit.{I1, I2, implicitLevel};
 ghost use Rattle.rules.proofs.Passes.{span};
 
+fn is_number(t: u8) -> bool
+    ensures { λ r. ⌜ r ≡ (eqb t EN || eqb t AN) ⌝ }
+{
+    if t == classes::EN {
+        return true;
+    }
+    t == classes::AN
+}
+
+fn is_odd(level: u8) -> bool
+    ensures { λ r. ⌜ r ≡ isOdd level ⌝ }
+{
+    level % 2 == 1
+}
+
 fn direction(t: u8) -> u8
     ensures { λ r. ⌜ r ≡ direction t ⌝ }
 {
-    if t == classes::EN {
-        return classes::R;
-    }
-    if t == classes::AN {
+    if is_number(t) {
         return classes::R;
     }
     t
@@ -23,7 +38,7 @@ fn direction(t: u8) -> u8
 fn level_direction(level: u8) -> u8
     ensures { λ r. ⌜ r ≡ levelDirection level ⌝ }
 {
-    if level % 2 == 1 {
+    if is_odd(level) {
         return classes::R;
     }
     classes::L
@@ -92,10 +107,7 @@ fn i1(level: u8, t: u8) -> u8
     if t == classes::R {
         return level + 1;
     }
-    if t == classes::EN {
-        return level + 2;
-    }
-    if t == classes::AN {
+    if is_number(t) {
         return level + 2;
     }
     level
@@ -108,10 +120,7 @@ fn i2(level: u8, t: u8) -> u8
     if t == classes::L {
         return level + 1;
     }
-    if t == classes::EN {
-        return level + 1;
-    }
-    if t == classes::AN {
+    if is_number(t) {
         return level + 1;
     }
     level
@@ -122,7 +131,7 @@ fn implicit_level(level: u8, t: u8) -> u8
     requires { ⌜ level ≤ 61 ⌝ }
     ensures { λ r. ⌜ r ≡ implicitLevel level t ⌝ }
 {
-    if level % 2 == 1 {
+    if is_odd(level) {
         return i2(level, t);
     }
     i1(level, t)
@@ -135,7 +144,8 @@ pub fn implicit_levels(types: &[u8], level: u8, levels: &mut [u8])
 {
     let mut i = 0;
     while i < types.len() {
-        levels[i] = implicit_level(level, types[i]);
+        let t = types[i];
+        levels[i] = implicit_level(level, t);
         i += 1;
     }
 }

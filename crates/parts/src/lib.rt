@@ -12,6 +12,7 @@ pub fn type_at(types: &[u8], i: usize, end: u8) -> u8
     end
 }
 
+// Takes the part alone, so that it asks nothing of its caller.
 pub fn fill(part: &mut [u8], t: u8)
     ensures { λ _. ⌜ now (part .exit) ≡ replicate (length (now (part .entry))) t ⌝ }
 {

@@ -1,7 +1,7 @@
 -- The weak rules as passes: W1 to W4, W6 and W7 are sweeps, W5 goes by stretches; and no rule changes a run's length.
 -- Assumes nothing.
 use Prim.Native.Nat.{ℕ}
-use mathlib.Core.Bool.{Bool, true, false, _&&_}
+use mathlib.Core.Bool.{true, false, _&&_}
 use mathlib.Core.Path.{_≡_, refl, sym, ap, _∙_}
 use mathlib.Core.List.{List, [], _∷_}
 use borrow.Author.Tests.{eqb-true, ne-eqb}

@@ -1,6 +1,6 @@
 -- The steps of the rules that carry a type along the run: what W1, W2 and W7 make of one type, and what they carry on.
 use Prim.Native.Nat.{ℕ}
-use mathlib.Core.Bool.{Bool, _||_, _&&_}
+use mathlib.Core.Bool.{_||_, _&&_}
 use lib.Dec.{eqb}
 use Rattle.rules.specs.Choice.{if_then_else_}
 use Rattle.rules.specs.Classes.{L, R, AL, EN, AN, NSM, isStrong}

@@ -82,6 +82,7 @@ pub(crate) fn w3(types: &mut [u8])
     }
 }
 
+// Only between equal types does a separator change: that is asked first, then which number they are.
 fn change_w4(before: u8, t: u8, next: u8) -> u8
     ensures { λ r. ⌜ r ≡ changeW4 before t next ⌝ }
 {

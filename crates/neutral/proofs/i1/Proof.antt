@@ -1,4 +1,6 @@
 -- `neutral::i1` meets its contract: the tests on the way to each return decide `I1`. Assumes nothing.
+use mathlib.Core.Path.{sym, _∙_}
+use borrow.Author.Tests.{ne-eqb}
 use Rattle.rules.proofs.Tests.{tests}
 use Rattle.rules.specs.Implicit.{I1}
 use borrow.Author.Needs.{needs}
@@ -12,24 +14,20 @@ returns : tie.Need-returns
 unfolding I1
 returns c = search (needs, tests)
 
+is-number-requires : tie.Need-is-number-requires
+is-number-requires c κs = search needs
+
 add-result-2 : tie.Need-add-result-2
 add-result-2 c = search needs
 
 returns-2 : tie.Need-returns-2
 unfolding I1
-returns-2 c = search (needs, tests)
-
-add-result-3 : tie.Need-add-result-3
-add-result-3 c = search needs
+returns-2 c = simp (ne-eqb _ _ (c .before .before .if1 .left), sym (c .before .is-number .ensures) ∙ c .if2 .taken)
 
 returns-3 : tie.Need-returns-3
 unfolding I1
-returns-3 c = search (needs, tests)
-
-returns-4 : tie.Need-returns-4
-unfolding I1
-returns-4 c = search (needs, tests)
+returns-3 c = simp (ne-eqb _ _ (c .before .before .if1 .left), sym (c .before .is-number .ensures) ∙ c .if2 .left)
 
 pub i1-spec : {M : Type 1} → statement M
 i1-spec =
-    tie.close (tie.spec add-result returns add-result-2 returns-2 add-result-3 returns-3 returns-4)
+    tie.close (tie.spec add-result returns is-number-requires add-result-2 returns-2 returns-3)

@@ -18,8 +18,8 @@ abbrev μ-loop : tie.MeasureT-loop
 loop-holds : tie.Need-loop-holds Inv-loop μ-loop
 loop-holds c = sweep-begun 0 _ _ (sym (c .before .before .pre .0))
 
-shared-slice-read-implicit-level : tie.Need-shared-slice-read-implicit-level Inv-loop μ-loop
-shared-slice-read-implicit-level c = search needs
+shared-slice-read-t : tie.Need-shared-slice-read-t Inv-loop μ-loop
+shared-slice-read-t c = search needs
 
 implicit-level-requires : tie.Need-implicit-level-requires Inv-loop μ-loop
 implicit-level-requires c κs = search needs
@@ -49,7 +49,7 @@ implicit-levels-spec =
     Inv-loop
     μ-loop
     loop-holds
-    shared-slice-read-implicit-level
+    shared-slice-read-t
     implicit-level-requires
     slice-write-levels
     add-i

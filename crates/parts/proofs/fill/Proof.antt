@@ -2,7 +2,7 @@
 -- the length. Assumes nothing.
 use Prim.Native.Nat.{_-_}
 use mathlib.Core.Path.{refl, sym, _∙_}
-use lib.ListN.{length, length-set}
+use lib.ListN.{length}
 use borrow.Author.Needs.{needs}
 use Rattle.rules.proofs.Passes.{Swept, sweep-begun, sweep-step-in-place, sweep-done, replicate-sweep}
 use Rattle.parts.proofs.fill.Statement.{statement}

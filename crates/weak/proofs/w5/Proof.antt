@@ -3,8 +3,8 @@
 use Prim.Native.Nat.{_-_, _≤_, _<_}
 use native.Mathlib.Omega.{arith}
 use borrow.Author.Tests.{eq-eqb, ne-eqb}
-use mathlib.Core.Path.{refl, sym, ap, _∙_}
-use lib.ListN.{length, getD}
+use mathlib.Core.Path.{sym, ap, _∙_}
+use lib.ListN.{length}
 use Rattle.rules.specs.Weak.{W5, isTerminator, changeW5}
 use Rattle.rules.specs.Classes.{ET}
 use Rattle.rules.proofs.Passes.{Stretched, stretch-begun, stretch-over, stretch-filled, stretch-done, span-found}
