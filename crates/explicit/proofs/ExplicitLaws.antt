@@ -1,10 +1,10 @@
 -- The explicit phase by its definitions alone: its equations, its lengths, and that no level of a kept position passes 61.
 -- Assumes nothing.
-use Prim.Native.Nat.{ℕ, zero, suc, _+_, _≤_, _<_, zero-le, suc-le-suc}
+use Prim.Native.Nat.{ℕ, zero, suc, _≤_, zero-le, suc-le-suc}
 use native.Mathlib.Omega.{arith}
-use mathlib.Core.Path.{_≡_, refl, sym, ap, subst, _∙_}
+use mathlib.Core.Path.{_≡_, refl, ap}
 use mathlib.Core.Bool.{Bool, true, false}
-use mathlib.Core.List.{List, [], _∷_, _++_, tail}
+use mathlib.Core.List.{List, [], _∷_, tail}
 use borrow.Author.Tests.{leb-true}
 use lib.Dec.{eqb, leb}
 use lib.ListN.{length, getD}
@@ -18,7 +18,8 @@ pub levels-none : (base : ℕ) (s : State) → explicitLevels base s [] ≡ []
 unfolding explicitLevels
 levels-none base s = refl
 
-pub levels-more : (base : ℕ) (s : State) (c : ℕ) (cs : List ℕ) → explicitLevels base s (c ∷ cs) ≡ levelHere base s c ∷ explicitLevels base (step s c) cs
+pub levels-more : (base : ℕ) (s : State) (c : ℕ) (cs : List ℕ)
+    → explicitLevels base s (c ∷ cs) ≡ levelHere base s c ∷ explicitLevels base (step s c) cs
 unfolding explicitLevels
 levels-more base s c cs = refl
 
@@ -64,7 +65,8 @@ length-kept [] xs = zero-le
 length-kept (c ∷ cs) [] = zero-le
 length-kept (c ∷ cs) (x ∷ xs) = if-length (isRemoved c) x (kept cs xs) (length-kept cs xs)
 
-if-same : (b : Bool) (x y : ℕ) (xs ys : List ℕ) → length xs ≡ length ys → length (if b then xs else x ∷ xs) ≡ length (if b then ys else y ∷ ys)
+if-same : (b : Bool) (x y : ℕ) (xs ys : List ℕ) → length xs ≡ length ys
+    → length (if b then xs else x ∷ xs) ≡ length (if b then ys else y ∷ ys)
 if-same true x y xs ys e = e
 if-same false x y xs ys e = ap suc e
 
@@ -77,7 +79,8 @@ length-kept-same (c ∷ cs) (x ∷ xs) [] e f = absurd (omega arith)
 length-kept-same (c ∷ cs) (x ∷ xs) (y ∷ ys) e f =
     if-same (isRemoved c) x y (kept cs xs) (kept cs ys) (length-kept-same cs xs ys (omega arith) (omega arith))
 
-pub length-kept-types : (base : ℕ) (cs : List ℕ) → length (kept cs (explicitTypes (X1 base) cs)) ≡ length (kept cs (explicitLevels base (X1 base) cs))
+pub length-kept-types : (base : ℕ) (cs : List ℕ)
+    → length (kept cs (explicitTypes (X1 base) cs)) ≡ length (kept cs (explicitLevels base (X1 base) cs))
 length-kept-types base cs =
     length-kept-same cs (explicitTypes (X1 base) cs) (explicitLevels base (X1 base) cs) (length-types (X1 base) cs) (length-levels base (X1 base) cs)
 
@@ -155,12 +158,14 @@ here-low : (base : ℕ) (s : State) (c : ℕ) → base ≤ 61 → Low s → isRe
 unfolding levelHere
 here-low base s c b h e = rw e (if-low (isParagraphEnd c) b (h .level))
 
-pub kept-levels-low : (base : ℕ) (s : State) (cs : List ℕ) → base ≤ 61 → Low s → (i : ℕ) → getD (kept cs (explicitLevels base s cs)) i 0 ≤ 61
+pub kept-levels-low : (base : ℕ) (s : State) (cs : List ℕ) → base ≤ 61 → Low s → (i : ℕ)
+    → getD (kept cs (explicitLevels base s cs)) i 0 ≤ 61
 unfolding kept explicitLevels
 kept-levels-low base s [] b h i = zero-le
 kept-levels-low base s (c ∷ cs) b h i = go (isRemoved c) refl (kept-levels-low base (step s c) cs b (step-low s c h)) i
   where
-    go : (r : Bool) → isRemoved c ≡ r → ((j : ℕ) → getD (kept cs (explicitLevels base (step s c) cs)) j 0 ≤ 61) → (j : ℕ) → getD (if r then kept cs (explicitLevels base (step s c) cs) else levelHere base s c ∷ kept cs (explicitLevels base (step s c) cs)) j 0 ≤ 61
+    go : (r : Bool) → isRemoved c ≡ r → ((j : ℕ) → getD (kept cs (explicitLevels base (step s c) cs)) j 0 ≤ 61) → (j : ℕ)
+        → getD (if r then kept cs (explicitLevels base (step s c) cs) else levelHere base s c ∷ kept cs (explicitLevels base (step s c) cs)) j 0 ≤ 61
     go true e rest j = rest j
     go false e rest zero = here-low base s c b h e
     go false e rest (suc j) = rest j

@@ -16,12 +16,14 @@ pub record Written (whole before out : List ℕ) (k : ℕ) (rest : List ℕ) : T
 pub written-begun : (before : List ℕ) {whole rest : List ℕ} → rest ≡ whole → Written whole before before 0 rest
 written-begun before e = record { same = refl; front = e; back = refl }
 
-pub written-more : {whole before out : List ℕ} {k v : ℕ} {rest next : List ℕ} → rest ≡ v ∷ next → k < length before → Written whole before out k rest → Written whole before (set out k v) (k + 1) next
+pub written-more : {whole before out : List ℕ} {k v : ℕ} {rest next : List ℕ} → rest ≡ v ∷ next → k < length before
+    → Written whole before out k rest → Written whole before (set out k v) (k + 1) next
 written-more {before = before} {out = out} {k = k} {v = v} {next = next} e h w =
     record {
       same = length-set out k v ∙ w .same;
       front = take-set-next out k v next (rw (w .same) h) ∙ ap (λ (r : List ℕ). take k out ++ r) (sym e) ∙ w .front;
-      back = drop-set-next out k v ∙ sym (drop-drop 1 k out) ∙ ap (λ (xs : List ℕ). drop 1 xs) (w .back) ∙ drop-drop 1 k before }
+      back = drop-set-next out k v ∙ sym (drop-drop 1 k out) ∙ ap (λ (xs : List ℕ). drop 1 xs) (w .back) ∙ drop-drop 1 k before;
+    }
 
 module _ {whole before out rest : List ℕ} {k : ℕ} (w : Written whole before out k rest) (none : rest ≡ []) (within : k ≤ length before) where
   written-front : take k out ≡ whole

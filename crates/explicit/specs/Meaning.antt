@@ -50,16 +50,23 @@ pub data Falls (levels : List ℕ) : ℕ → ℕ → Type 0 where
   none : {level : ℕ} → Falls levels level zero
   more : {level d : ℕ} → getD levels d 0 < level → Falls levels (getD levels d 0) d → Falls levels level (suc d)
 
--- what holds of every machine that a walk meets. At most 61 pairs are remembered, since their levels fall;
--- invalid codes are counted at 61 only while the machine is there, and at 60 only there or one code above it
+-- invalid codes are counted at 61 only while the machine is there
+abbrev pub Only61 : ℕ → ℕ → Type 0
+Only61 n61 level = (n61 ≡ 0) ⊎ (level ≡ 61)
+
+-- and at 60 only while it is there, or at 61 with 60 remembered last
+abbrev pub Only60 : ℕ → ℕ → ℕ → Type 0
+Only60 n60 level last = (n60 ≡ 0) ⊎ ((level ≡ 60) ⊎ ((level ≡ 61) × (last ≡ 60)))
+
+-- what holds of every machine that a walk meets: at most 61 pairs are remembered, since their levels fall
 pub record Sound (m : Machine) : Type 0 where
   pub levels : length (m .levels) ≡ 61
   pub overrides : length (m .overrides) ≡ 61
   pub depth : m .depth ≤ 61
   pub level : m .level ≤ highestExplicit
   pub falls : Falls (m .levels) (m .level) (m .depth)
-  pub only61 : (m .invalid61 ≡ 0) ⊎ (m .level ≡ 61)
-  pub only60 : (m .invalid60 ≡ 0) ⊎ ((m .level ≡ 60) ⊎ ((m .level ≡ 61) × (getD (m .levels) (m .depth - 1) 0 ≡ 60)))
+  pub only61 : Only61 (m .invalid61) (m .level)
+  pub only60 : Only60 (m .invalid60) (m .level) (getD (m .levels) (m .depth - 1) 0)
 
 -- how many invalid codes are counted in all
 abbrev pub counts : Machine → ℕ
@@ -70,6 +77,12 @@ pub record Stands (m : Machine) (s : State) (most : ℕ) : Type 0 where
   pub sound : Sound m
   pub state : meaning m ≡ s
   pub counted : counts m ≤ most
+
+-- the same machine with n invalid codes at its present level
+pub record Recounted (m : Machine) (n : ℕ) (r : Machine) : Type 0 where
+  pub sound : Sound r
+  pub state : meaning r ≡ stateWith m n
+  pub counted : counts r + invalidHere m ≡ counts m + n
 
 -- what a verdict tells of the machine that gave it
 abbrev pub Shown : Machine → Verdict → Type 0
@@ -86,9 +99,3 @@ Shown m Plain = Unit
 pub record Judged (m : Machine) (right : rules.Verdict) (v : Verdict) : Type 0 where
   pub says : verdictOf v ≡ right
   pub shown : Shown m v
-
--- the same machine with n invalid codes at its present level
-pub record Recounted (m : Machine) (n : ℕ) (r : Machine) : Type 0 where
-  pub sound : Sound r
-  pub state : meaning r ≡ stateWith m n
-  pub counted : counts r + invalidHere m ≡ counts m + n

@@ -1,4 +1,4 @@
-// Explicit levels and directions, rules X1 to X9: the machine, and the two walks that step it along a paragraph.
+// Explicit levels and directions, rules X1 to X9: two walks along a paragraph, which step the machine once a position.
 ghost use mathlib.Core.Path.{_≡_};
 ghost use Prim.Native.Nat.{_≤_};
 ghost use lib.ListN.{length};
@@ -10,7 +10,7 @@ mod machine;
 
 use machine::Machine;
 
-// The level of every position after X9.
+// A level for every position, 255 where it is removed: what the job Explicit writes.
 pub fn explicit_levels(classes: &[u8], base: u8, levels: &mut [u8])
     requires { ⌜ (base ≤ 1) × (length (now classes) ≤ length (now levels)) ⌝ }
     ensures { λ _. ⌜ now (levels .exit) ≡ over (explicitLevels base (X1 base) (now (classes .entry))) (now (levels .entry)) ⌝ }
@@ -25,7 +25,8 @@ pub fn explicit_levels(classes: &[u8], base: u8, levels: &mut [u8])
     }
 }
 
-// The levels and types of the kept positions alone, packed: all that later phases work on.
+// The levels and types of the kept positions alone, packed at the front: the later phases work on neighbours, and X9
+// makes neighbours of what stands around a removed position. Returns how many are kept.
 pub fn gather(classes: &[u8], base: u8, levels: &mut [u8], types: &mut [u8]) -> usize
     requires { ⌜ (base ≤ 1) × (length (now classes) ≤ length (now levels)) × (length (now classes) ≤ length (now types)) ⌝ }
     ensures { λ r. ⌜ Gathered base (now (classes .entry)) (now (levels .entry)) (now (types .entry)) (now (levels .exit)) (now (types .exit)) r ⌝ }

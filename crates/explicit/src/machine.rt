@@ -1,10 +1,17 @@
-// The machine that takes one class at a time (X1 to X8), by value.
+// The machine of rules X1 to X9: a state by value, which takes one class and hands back the next state.
 ghost use mathlib.Core.Path.{_≡_};
 ghost use Prim.Native.Nat.{_≤_, _<_, _+_, _^_};
 ghost use Rattle.rules.specs.Explicit.{X1, leastGreaterOdd, leastGreaterEven, levelAsked, overrideAsked, opening, closing, verdict, after, step, levelHere, typeHere};
 ghost use Rattle.rules.specs.Explicit as rules;
-ghost use Rattle.explicit.specs.Meaning.{meaning, stateWith, invalidHere, verdictOf, Sound, counts, Stands, Shown, Judged, Recounted};
+ghost use Rattle.explicit.specs.Meaning.{meaning, invalidHere, Sound, counts, Stands, Shown, Judged, Recounted};
 
+// The highest level that a code may take.
+const HIGHEST: u8 = 61;
+
+// What a removed position holds in a level buffer.
+const REMOVED: u8 = 255;
+
+// What a class does in a state. A verdict that opens or closes validly names the level and override to take.
 pub(crate) enum Verdict {
     OpensValid(u8, u8),
     OpensInvalid,
@@ -14,6 +21,8 @@ pub(crate) enum Verdict {
     Plain,
 }
 
+// The pairs not yet matched lie in two arrays, of which the first `depth` places count. Invalid codes need no places of
+// their own: only at levels 60 and 61 can there be any, and they are matched before what is remembered below.
 pub(crate) struct Machine {
     levels: [u8; 61],
     overrides: [u8; 61],
@@ -24,6 +33,7 @@ pub(crate) struct Machine {
     invalid61: usize,
 }
 
+// X2 and X4.
 fn least_greater_odd(level: u8) -> u8
     requires { ⌜ level ≤ 61 ⌝ }
     ensures { λ r. ⌜ r ≡ leastGreaterOdd level ⌝ }
@@ -34,6 +44,7 @@ fn least_greater_odd(level: u8) -> u8
     level + 1
 }
 
+// X3 and X5.
 fn least_greater_even(level: u8) -> u8
     requires { ⌜ level ≤ 61 ⌝ }
     ensures { λ r. ⌜ r ≡ leastGreaterEven level ⌝ }
@@ -70,6 +81,7 @@ fn override_asked(class: u8) -> u8
 }
 
 impl Machine {
+    // X1. What the arrays hold before anything is remembered does not matter.
     pub(crate) fn new(base: u8) -> Machine
         requires { ⌜ base ≤ 1 ⌝ }
         ensures { λ r. ⌜ Stands r (X1 base) 0 ⌝ }
@@ -85,6 +97,7 @@ impl Machine {
         }
     }
 
+    // How many invalid codes wait to be matched before the pair remembered last.
     fn invalid_here(self) -> usize
         ensures { λ r. ⌜ r ≡ invalidHere self ⌝ }
     {
@@ -98,6 +111,7 @@ impl Machine {
         0
     }
 
+    // The count of the present level set anew: both ways of changing it go through here.
     fn counted(mut self, n: usize) -> Machine
         requires { ⌜ Sound self × (60 ≤ self .level) ⌝ }
         ensures { λ r. ⌜ Recounted self n r ⌝ }
@@ -110,17 +124,19 @@ impl Machine {
         self
     }
 
+    // X2 to X5.
     fn opening(self, class: u8) -> Verdict
         requires { ⌜ Sound self ⌝ }
         ensures { λ r. ⌜ Judged self (opening (levelAsked class (self .level)) (overrideAsked class)) r ⌝ }
     {
         let new = level_asked(class, self.level);
-        if new <= 61 {
+        if new <= HIGHEST {
             return Verdict::OpensValid(new, override_asked(class));
         }
         Verdict::OpensInvalid
     }
 
+    // X7. The one place where a remembered pair is read.
     fn closing(self) -> Verdict
         requires { ⌜ Sound self ⌝ }
         ensures { λ r. ⌜ Judged self (closing (meaning self .unmatched)) r ⌝ }
@@ -149,6 +165,7 @@ impl Machine {
         Verdict::Plain
     }
 
+    // The one place where a pair is remembered.
     fn remember(mut self, new: u8, over: u8) -> Machine
         requires { ⌜ Sound self × Shown self (Verdict.OpensValid new over) ⌝ }
         ensures { λ r. ⌜ Stands r (after (meaning self) (rules.opensValid new over)) (counts self) ⌝ }
@@ -162,6 +179,7 @@ impl Machine {
         self
     }
 
+    // The pair that a verdict read is taken back; its places are free again.
     fn restore(mut self, level: u8, over: u8) -> Machine
         requires { ⌜ Sound self × Shown self (Verdict.ClosesValid level over) ⌝ }
         ensures { λ r. ⌜ Stands r (after (meaning self) (rules.closesValid level over)) (counts self) ⌝ }
@@ -188,6 +206,7 @@ impl Machine {
         self.counted(n - 1)
     }
 
+    // One class taken: every change of state goes through the verdict.
     pub(crate) fn step(self, class: u8) -> Machine
         requires { ⌜ Sound self × (counts self < 2 ^ 63) ⌝ }
         ensures { λ r. ⌜ Stands r (step (meaning self) class) (counts self + 1) ⌝ }
@@ -203,11 +222,12 @@ impl Machine {
         }
     }
 
+    // X6a, X8 and X9: the level of a position of this class.
     pub(crate) fn level_here(self, base: u8, class: u8) -> u8
         ensures { λ r. ⌜ r ≡ levelHere base (meaning self) class ⌝ }
     {
         if classes::is_removed(class) {
-            return 255;
+            return REMOVED;
         }
         if classes::is_paragraph_end(class) {
             return base;
@@ -215,6 +235,7 @@ impl Machine {
         self.level
     }
 
+    // X6b and X8: the type of a kept position of this class.
     pub(crate) fn type_here(self, class: u8) -> u8
         ensures { λ r. ⌜ r ≡ typeHere (meaning self) class ⌝ }
     {

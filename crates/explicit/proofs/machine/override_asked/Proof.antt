@@ -1,22 +1,19 @@
+-- `explicit::machine::override_asked` meets its contract: each return is a case of the definition.
+-- Assumes nothing.
 use Rattle.rules.proofs.Tests.{tests}
 use Rattle.rules.specs.Explicit.{overrideAsked}
 use borrow.Author.Needs.{needs}
 use Rattle.explicit.proofs.machine.override_asked.Statement.{statement}
 use Rattle.explicit.proofs.machine.override_asked.Tie as tie
-use Rattle.explicit.proofs.machine.override_asked.Reads as reads
-use Rattle.explicit.proofs.machine.override_asked.Lts as lts
 
--- src/machine.rt:64:9
 returns : tie.Need-returns
 unfolding overrideAsked
 returns c = search (needs, tests)
 
--- src/machine.rt:67:9
 returns-2 : tie.Need-returns-2
 unfolding overrideAsked
 returns-2 c = search (needs, tests)
 
--- src/machine.rt:60:1
 returns-3 : tie.Need-returns-3
 unfolding overrideAsked
 returns-3 c = search (needs, tests)

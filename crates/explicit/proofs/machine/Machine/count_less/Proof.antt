@@ -1,26 +1,19 @@
-use native.Mathlib.Omega.{arith}
+-- `explicit::machine::Machine::count_less` meets its contract: the nearest unmatched code, an invalid one, goes.
+-- Assumes nothing.
 use Rattle.explicit.proofs.MachineLaws.{one-less, counted-high}
 use borrow.Author.Needs.{needs}
 use Rattle.explicit.proofs.machine.Machine.count_less.Statement.{statement}
 use Rattle.explicit.proofs.machine.Machine.count_less.Tie as tie
-use Rattle.explicit.proofs.machine.Machine.count_less.Reads as reads
-use Rattle.explicit.proofs.machine.Machine.count_less.Lts as lts
-use Rattle.explicit.proofs.machine.Machine.counted.Reads as counted-reads
-use Rattle.explicit.proofs.machine.Machine.invalid_here.Reads as invalid-here-reads
 
--- src/machine.rt:187:13
 invalid-here-requires : tie.Need-invalid-here-requires
 invalid-here-requires c κs = search needs
 
--- src/machine.rt:188:22
 sub-counted : tie.Need-sub-counted
 sub-counted c = search needs
 
--- src/machine.rt:188:9
 counted-requires : tie.Need-counted-requires
 counted-requires c κs = (c .before .pre .0, counted-high (c .before .args .self) (c .before .pre .1))
 
--- src/machine.rt:183:5
 returns : tie.Need-returns
 returns c = one-less _ _ (c .before .before .pre .1) (rw (c .before .invalid-here .ensures) at (c .counted .ensures))
 

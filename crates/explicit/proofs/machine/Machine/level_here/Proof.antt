@@ -1,32 +1,25 @@
+-- `explicit::machine::Machine::level_here` meets its contract: each return is a case of the definition.
+-- Assumes nothing.
 use mathlib.Core.Path.{sym, _∙_}
 use Rattle.rules.specs.Explicit.{levelHere}
 use borrow.Author.Needs.{needs}
 use Rattle.explicit.proofs.machine.Machine.level_here.Statement.{statement}
 use Rattle.explicit.proofs.machine.Machine.level_here.Tie as tie
-use Rattle.explicit.proofs.machine.Machine.level_here.Reads as reads
-use Rattle.explicit.proofs.machine.Machine.level_here.Lts as lts
-use Rattle.classes.proofs.is_paragraph_end.Reads as is-paragraph-end-reads
-use Rattle.classes.proofs.is_removed.Reads as is-removed-reads
 
--- src/machine.rt:209:12
 is-removed-requires : tie.Need-is-removed-requires
 is-removed-requires c κs = search needs
 
--- src/machine.rt:210:13
 returns : tie.Need-returns
 unfolding levelHere
 returns c = simp (sym (c .before .is-removed .ensures) ∙ c .if1 .taken)
 
--- src/machine.rt:212:12
 is-paragraph-end-requires : tie.Need-is-paragraph-end-requires
 is-paragraph-end-requires c κs = search needs
 
--- src/machine.rt:213:13
 returns-2 : tie.Need-returns-2
 unfolding levelHere
 returns-2 c = simp (sym (c .before .before .before .is-removed .ensures) ∙ c .before .before .if1 .left, sym (c .before .is-paragraph-end .ensures) ∙ c .if2 .taken)
 
--- src/machine.rt:206:5
 returns-3 : tie.Need-returns-3
 unfolding levelHere
 returns-3 c = simp (sym (c .before .before .before .is-removed .ensures) ∙ c .before .before .if1 .left, sym (c .before .is-paragraph-end .ensures) ∙ c .if2 .left)

@@ -1,15 +1,13 @@
+-- `explicit::machine::Machine::restore` meets its contract: the pair remembered last was the nearest unmatched code.
+-- Assumes nothing.
 use Rattle.explicit.proofs.MachineLaws.{restored}
 use borrow.Author.Needs.{needs}
 use Rattle.explicit.proofs.machine.Machine.restore.Statement.{statement}
 use Rattle.explicit.proofs.machine.Machine.restore.Tie as tie
-use Rattle.explicit.proofs.machine.Machine.restore.Reads as reads
-use Rattle.explicit.proofs.machine.Machine.restore.Lts as lts
 
--- src/machine.rt:169:22
 sub-self : tie.Need-sub-self
 sub-self c = search needs
 
--- src/machine.rt:165:5
 returns : tie.Need-returns
 returns c = restored (c .before .args .self) (c .before .pre .0) _ _ (c .before .pre .1)
 

@@ -1,35 +1,26 @@
+-- `explicit::machine::Machine::verdict` meets its contract: a case of the definition for each test on the class.
+-- Assumes nothing.
 use mathlib.Core.Path.{sym, refl, _∙_}
 use Rattle.explicit.proofs.MachineLaws.{verdict-opens, verdict-closes, verdict-plain}
 use borrow.Author.Needs.{needs}
 use Rattle.explicit.proofs.machine.Machine.verdict.Statement.{statement}
 use Rattle.explicit.proofs.machine.Machine.verdict.Tie as tie
-use Rattle.explicit.proofs.machine.Machine.verdict.Reads as reads
-use Rattle.explicit.proofs.machine.Machine.verdict.Lts as lts
-use Rattle.classes.proofs.is_opening.Reads as is-opening-reads
-use Rattle.explicit.proofs.machine.Machine.closing.Reads as closing-reads
-use Rattle.explicit.proofs.machine.Machine.opening.Reads as opening-reads
 
--- src/machine.rt:143:12
 is-opening-requires : tie.Need-is-opening-requires
 is-opening-requires c κs = search needs
 
--- src/machine.rt:144:13
 opening-requires : tie.Need-opening-requires
 opening-requires c κs = search needs
 
--- src/machine.rt:144:13
 returns : tie.Need-returns
 returns c = rw (verdict-opens _ _ (sym (c .before .before .is-opening .ensures) ∙ c .before .if1 .taken)) (c .opening .ensures)
 
--- src/machine.rt:147:13
 closing-requires : tie.Need-closing-requires
 closing-requires c κs = search needs
 
--- src/machine.rt:147:13
 returns-2 : tie.Need-returns-2
 returns-2 c = rw (verdict-closes _ _ (sym (c .before .before .before .is-opening .ensures) ∙ c .before .before .if1 .left) (c .before .if2 .taken)) (c .closing .ensures)
 
--- src/machine.rt:139:5
 returns-3 : tie.Need-returns-3
 returns-3 c = rw (verdict-plain _ _ (sym (c .before .before .is-opening .ensures) ∙ c .before .if1 .left) (c .if2 .left)) (record { says = refl; shown = tt })
 
