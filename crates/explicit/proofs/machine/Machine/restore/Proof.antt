@@ -1,0 +1,15 @@
+-- `explicit::machine::Machine::restore` meets its contract: the pair remembered last was the nearest unmatched code.
+-- Assumes nothing.
+use Rattle.explicit.proofs.MachineLaws.{restored}
+use borrow.Author.Needs.{needs}
+use Rattle.explicit.proofs.machine.Machine.restore.Statement.{statement}
+use Rattle.explicit.proofs.machine.Machine.restore.Tie as tie
+
+sub-self : tie.Need-sub-self
+sub-self c = search needs
+
+returns : tie.Need-returns
+returns c = restored (c .before .args .self) (c .before .pre .0) _ _ (c .before .pre .1)
+
+pub restore-spec : {M : Type 1} → statement M
+restore-spec = tie.close (tie.spec sub-self returns)
