@@ -88,7 +88,7 @@ module _ (cs : List ℕ) (i : ℕ) (w : Walking cs i) where
               room = omega (arith, w .room, ne);
               some = w .some;
               checks = rw (here, u, p) at (w .checks);
-              paragraph = omega arith
+              paragraph = omega arith;
             }
 
 -- ---- the second form: the paragraph is a part of the lent classes

@@ -1,7 +1,6 @@
 // Base: the base level of one paragraph, by its text.
 use crate::answers::BaseAnswer;
 use refusals::Checked;
-
 ghost use mathlib.Core.Path.{_≡_};
 ghost use Rattle.rules.specs.Jobs.{baseAnswer};
 ghost use Rattle.melvorash.specs.Answers.{basePage, Answers};

@@ -1,7 +1,6 @@
 // Cut: the first paragraph of the lent classes.
 use crate::answers::CutAnswer;
 use refusals::Refusal;
-
 ghost use mathlib.Core.Path.{_≡_};
 ghost use Rattle.rules.specs.Jobs.{cutAnswer, cutPart};
 ghost use Rattle.melvorash.specs.Answers.{cutPage, Answers};

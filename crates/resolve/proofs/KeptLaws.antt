@@ -95,12 +95,12 @@ module _ {ts₀ ls₀ : List ℕ} {base : ℕ} {ts ls : List ℕ} {before i : �
           levels-left = drop-put i e ls ls′ from-to (run .within) long ∙ levels-after;
           types-left = drop-put i e ts ts′ from-to types-room (types ∙ mid-len i e ts types-room) ∙ types-after;
           done =
-            ap (λ (xs : List ℕ). xs ++ resolveRuns base (getD ls i 0) (drop e ls₀) (drop e ts₀) (runLengths (drop e ls₀)))
+              ap (λ (xs : List ℕ). xs ++ resolveRuns base (getD ls i 0) (drop e ls₀) (drop e ts₀) (runLengths (drop e ls₀)))
               (take-put-end ls ls′ i e from-to (run .within) long)
-            ∙ append-assoc (take i ls) ls′ (resolveRuns base (getD ls i 0) (drop e ls₀) (drop e ts₀) (runLengths (drop e ls₀)))
-            ∙ ap (λ (xs : List ℕ). take i ls ++ xs)
+              ∙ append-assoc (take i ls) ls′ (resolveRuns base (getD ls i 0) (drop e ls₀) (drop e ts₀) (runLengths (drop e ls₀)))
+              ∙ ap (λ (xs : List ℕ). take i ls ++ xs)
               (ap (λ (xs : List ℕ). xs ++ resolveRuns base (getD ls i 0) (drop e ls₀) (drop e ts₀) (runLengths (drop e ls₀))) out-is ∙ sym the-run)
-            ∙ r .done
+              ∙ r .done;
         }
 
 -- the level at i is the one that stood there at first

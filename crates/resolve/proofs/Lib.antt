@@ -1,3 +1,4 @@
 pub mod RunLaws
 pub mod ScatterLaws
 pub mod KeptLaws
+pub mod WholeLaws

@@ -67,11 +67,11 @@ module _ (ls : List ℕ) (from i : ℕ) (r : Running ls from i) where
         start = omega (arith, r .start);
         inside = h;
         lengths =
-          r .lengths
-          ∙ ap (λ (xs : List ℕ). longer (i - from) (runLengths xs)) (two-left h)
-          ∙ ap (longer (i - from)) (rw (lengths-two, eq-eqb (getD ls i 0) (getD ls (i + 1) 0) same))
-          ∙ longer-once (i - from) (runLengths (getD ls (i + 1) 0 ∷ drop (i + 1 + 1) ls))
-          ∙ rw (n, drop-next ls (i + 1) h)
+            r .lengths
+            ∙ ap (λ (xs : List ℕ). longer (i - from) (runLengths xs)) (two-left h)
+            ∙ ap (longer (i - from)) (rw (lengths-two, eq-eqb (getD ls i 0) (getD ls (i + 1) 0) same))
+            ∙ longer-once (i - from) (runLengths (getD ls (i + 1) 0 ∷ drop (i + 1 + 1) ls))
+            ∙ rw (n, drop-next ls (i + 1) h);
       }
 
   ended : (rest : List ℕ) → runLengths (drop i ls) ≡ 1 ∷ rest → runLengths (drop from ls) ≡ (i + 1 - from) ∷ rest
@@ -86,9 +86,9 @@ module _ (ls : List ℕ) (from i : ℕ) (r : Running ls from i) where
         later = omega (arith, r .start);
         within = omega arith;
         lengths =
-          ended (runLengths (drop (i + 1) ls))
-          (ap runLengths (two-left h)
-          ∙ rw (lengths-two, ne-eqb (getD ls i 0) (getD ls (i + 1) 0) other, drop-next ls (i + 1) h))
+            ended (runLengths (drop (i + 1) ls))
+            (ap runLengths (two-left h)
+            ∙ rw (lengths-two, ne-eqb (getD ls i 0) (getD ls (i + 1) 0) other, drop-next ls (i + 1) h));
       }
 
   pub run-last : length ls ≤ i + 1 → RunEnd ls from (i + 1)
@@ -98,7 +98,7 @@ module _ (ls : List ℕ) (from i : ℕ) (r : Running ls from i) where
       record {
         later = omega (arith, r .start);
         within = omega (arith, r .inside);
-        lengths = ended (runLengths (drop (i + 1) ls)) (rw (drop-next ls i (r .inside), e))
+        lengths = ended (runLengths (drop (i + 1) ls)) (rw (drop-next ls i (r .inside), e));
       }
 
 -- ---- a boundary's direction

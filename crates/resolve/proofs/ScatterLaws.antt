@@ -91,7 +91,7 @@ placing-begun cs ls₀ count e h =
       fits = omega (arith, kept-at-most cs);
       left = rw (take-length cs) e;
       front = refl;
-      back = rw (drop-length cs)
+      back = rw (drop-length cs);
     }
 
 pub left-at-most : {cs ls₀ : List ℕ} {count : ℕ} {ls : List ℕ} {i j : ℕ} → Placing cs ls₀ count ls i j → j ≤ i
@@ -134,7 +134,7 @@ module _ (cs ls₀ : List ℕ) (count : ℕ) (ls : List ℕ) (i j : ℕ) (p : Pl
         fits = p .fits;
         left = omega (arith, p .left);
         front = front-shorter 255;
-        back = back-longer 255 ∙ sym (rw (drop-next cs i inside, put-one, r))
+        back = back-longer 255 ∙ sym (rw (drop-next cs i inside, put-one, r));
       }
 
   module _ (r : isRemoved (getD cs i 0) ≡ false) where
@@ -149,10 +149,10 @@ module _ (cs ls₀ : List ℕ) (count : ℕ) (ls : List ℕ) (i j : ℕ) (p : Pl
         let m : j ≤ i + 1 = left-at-most p in
         let packed : j - 1 < length (take count ls₀) = omega (arith, length-take count ls₀, one-more, p .packed, p .fits, p .room) in
         let same : getD ls (j - 1) 0 ≡ getD (take count ls₀) (j - 1) 0 =
-            sym (getD-take (i + 1) ls (j - 1) 0 (omega (arith, one-more)))
-            ∙ ap (λ (xs : List ℕ). getD xs (j - 1) 0) (p .front)
-            ∙ getD-take (i + 1) ls₀ (j - 1) 0 (omega (arith, one-more))
-            ∙ sym (getD-take count ls₀ (j - 1) 0 (omega (arith, one-more, p .packed))) in
+        sym (getD-take (i + 1) ls (j - 1) 0 (omega (arith, one-more)))
+        ∙ ap (λ (xs : List ℕ). getD xs (j - 1) 0) (p .front)
+        ∙ getD-take (i + 1) ls₀ (j - 1) 0 (omega (arith, one-more))
+        ∙ sym (getD-take count ls₀ (j - 1) 0 (omega (arith, one-more, p .packed))) in
         let back-one : j - 1 + 1 ≡ j = omega (arith, one-more) in
         record {
           within = omega (arith, inside);
@@ -163,8 +163,8 @@ module _ (cs ls₀ : List ℕ) (count : ℕ) (ls : List ℕ) (i j : ℕ) (p : Pl
           left = omega (arith, one-more);
           front = front-shorter (getD ls (j - 1) 0);
           back =
-            back-longer (getD ls (j - 1) 0)
-            ∙ rw (same, drop-next cs i inside, put-one, r, drop-next (take count ls₀) (j - 1) packed, back-one)
+              back-longer (getD ls (j - 1) 0)
+              ∙ rw (same, drop-next cs i inside, put-one, r, drop-next (take count ls₀) (j - 1) packed, back-one);
         }
 
 pub placing-done : (cs ls₀ : List ℕ) (count : ℕ) (ls : List ℕ) (i j : ℕ) → Placing cs ls₀ count ls i j → i ≤ j → ls ≡ putBack cs (take count ls₀) ++ drop (length cs) ls₀
@@ -177,4 +177,4 @@ placing-done cs ls₀ count ls i j p h =
     ∙ ap₂ (λ (xs ys : List ℕ). xs ++ ys) (p .front ∙ sym (take-take i count ls₀ few)) (p .back ∙ rw same)
     ∙ sym (append-assoc (take i (take count ls₀)) (putBack (drop i cs) (drop i (take count ls₀))) (drop (length cs) ls₀))
     ∙ ap (λ (xs : List ℕ). xs ++ drop (length cs) ls₀)
-      (sym (all-kept i cs (take count ls₀) (p .within) long (omega (arith, p .left))))
+    (sym (all-kept i cs (take count ls₀) (p .within) long (omega (arith, p .left))))

@@ -1,3 +1,33 @@
 // The resolved levels of a paragraph: X10, then W, N and I over each run of kept positions.
-pub mod runs;
-pub mod scatter;
+ghost use mathlib.Core.Path.{_≡_};
+ghost use Prim.Native.Nat.{_≤_};
+ghost use lib.ListN.{length};
+ghost use Rattle.rules.specs.Jobs.{over};
+ghost use Rattle.rules.specs.Resolve.{resolvedLevels};
+
+mod runs;
+mod scatter;
+
+// Gather, resolve, put back. The level buffer holds the packed levels meanwhile; `types` is room to work in.
+fn resolve_in(classes: &[u8], base: u8, levels: &mut [u8], types: &mut [u8])
+    requires { ⌜ (base ≤ 1) × (length (now classes) ≤ length (now levels)) × (length (now classes) ≤ length (now types)) ⌝ }
+    ensures { λ _. ⌜ now (levels .exit) ≡ over (resolvedLevels base (now (classes .entry))) (now (levels .entry)) ⌝ }
+{
+    let count = explicit::gather(classes, base, levels, types);
+    runs::resolve_kept(&mut types[..count], &mut levels[..count], base);
+    scatter::put_back(classes, levels, count);
+}
+
+// A short label does not pay for the room of the longest paragraph.
+pub fn resolve_levels(classes: &[u8], base: u8, levels: &mut [u8])
+    requires { ⌜ (base ≤ 1) × (length (now classes) ≤ length (now levels)) × (length (now classes) ≤ 4096) ⌝ }
+    ensures { λ _. ⌜ now (levels .exit) ≡ over (resolvedLevels base (now (classes .entry))) (now (levels .entry)) ⌝ }
+{
+    if classes.len() <= 64 {
+        let mut types = [0u8; 64];
+        resolve_in(classes, base, levels, &mut types);
+        return;
+    }
+    let mut types = [0u8; 4096];
+    resolve_in(classes, base, levels, &mut types);
+}

@@ -46,10 +46,11 @@ loop-less c = search needs
 
 -- src/lib.rt:19:5
 loop-again : tie.Need-loop-again Inv-loop μ-loop
-loop-again c =
-    (omega arith,
-    search-on _ _ _ (c .before .before .before .before .loop .inv .1) (c .before .before .before .loop-test .taken)
-    (known (c .before .is-strong .ensures) (c .if1 .left)))
+loop-again c = (
+  omega arith,
+  search-on _ _ _ (c .before .before .before .before .loop .inv .1) (c .before .before .before .loop-test .taken)
+      (known (c .before .is-strong .ensures) (c .if1 .left)),
+)
 
 -- src/lib.rt:15:1
 returns-2 : tie.Need-returns-2 Inv-loop μ-loop

@@ -39,8 +39,10 @@ is-unknown-requires c κs = search needs
 -- src/cut.rt:23:13
 returns-3 : tie.Need-returns-3 Inv-loop μ-loop
 returns-3 c =
-    record { answer =
-      cut-unknown _ _ (c .before .before .before .before .before .loop .inv) (c .before .before .before .before .loop-test .taken) (c .before .before .before .if2 .left) (known (c .before .is-unknown .ensures) (c .if3 .taken)) }
+    record {
+      answer =
+          cut-unknown _ _ (c .before .before .before .before .before .loop .inv) (c .before .before .before .before .loop-test .taken) (c .before .before .before .if2 .left) (known (c .before .is-unknown .ensures) (c .if3 .taken));
+    }
 
 -- src/cut.rt:25:12
 is-paragraph-end-requires : tie.Need-is-paragraph-end-requires Inv-loop μ-loop
@@ -53,9 +55,11 @@ add-t15 c = search needs
 -- src/cut.rt:26:13
 returns-4 : tie.Need-returns-4 Inv-loop μ-loop
 returns-4 c =
-    record { answer =
-      cut-end _ _ (c .before .before .before .before .before .before .before .loop .inv) (c .before .before .before .before .before .before .loop-test .taken) (c .before .before .before .before .before .if2 .left) (known (c .before .before .before .is-unknown .ensures) (c .before .before .if3 .left))
-      (known (c .before .is-paragraph-end .ensures) (c .if4 .taken)) }
+    record {
+      answer =
+          cut-end _ _ (c .before .before .before .before .before .before .before .loop .inv) (c .before .before .before .before .before .before .loop-test .taken) (c .before .before .before .before .before .if2 .left) (known (c .before .before .before .is-unknown .ensures) (c .before .before .if3 .left))
+          (known (c .before .is-paragraph-end .ensures) (c .if4 .taken));
+    }
 
 -- src/cut.rt:28:9
 add-i : tie.Need-add-i Inv-loop μ-loop

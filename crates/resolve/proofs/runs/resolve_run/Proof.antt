@@ -40,7 +40,7 @@ returns c =
     let a = c .before .before .before .before .before .before .before .before .before .before .before .before .before .before .before .args in
     c .before .before .implicit-levels .ensures
     ∙ ap (λ (ts : List ℕ). map (implicitLevel (a .level)) ts)
-      (c .before .before .before .before .before .before .before .resolve-neutrals .ensures ∙ ap (λ (ts : List ℕ). N2 (a .level) (N1 (a .sor) (a .eor) ts)) (c .before .before .before .before .before .before .before .before .before .before .before .weak .ensures))
+    (c .before .before .before .before .before .before .before .resolve-neutrals .ensures ∙ ap (λ (ts : List ℕ). N2 (a .level) (N1 (a .sor) (a .eor) ts)) (c .before .before .before .before .before .before .before .before .before .before .before .weak .ensures))
 
 pub resolve-run-spec : {M : Type 1} → statement M
 resolve-run-spec =
