@@ -55,6 +55,7 @@ fn least_greater_even(level: u8) -> u8
     level + 2
 }
 
+// One name for what X2 to X5 ask, so that a code is judged in one place.
 fn level_asked(class: u8, level: u8) -> u8
     requires { ⌜ level ≤ 61 ⌝ }
     ensures { λ r. ⌜ r ≡ levelAsked class level ⌝ }
@@ -68,6 +69,7 @@ fn level_asked(class: u8, level: u8) -> u8
     least_greater_even(level)
 }
 
+// RLE and LRE end the override around them.
 fn override_asked(class: u8) -> u8
     ensures { λ r. ⌜ r ≡ overrideAsked class ⌝ }
 {
@@ -152,6 +154,7 @@ impl Machine {
         Verdict::ClosesValid(self.levels[last], self.overrides[last])
     }
 
+    // Kept apart from what follows it: nothing is changed before the whole answer is known.
     fn verdict(self, class: u8) -> Verdict
         requires { ⌜ Sound self ⌝ }
         ensures { λ r. ⌜ Judged self (verdict (meaning self) class) r ⌝ }
@@ -190,6 +193,7 @@ impl Machine {
         self
     }
 
+    // An invalid code leaves a count alone, for its PDF to find.
     fn count_more(self) -> Machine
         requires { ⌜ Sound self × Shown self Verdict.OpensInvalid × (counts self < 2 ^ 63) ⌝ }
         ensures { λ r. ⌜ Stands r (after (meaning self) rules.opensInvalid) (counts self + 1) ⌝ }
@@ -198,6 +202,7 @@ impl Machine {
         self.counted(n + 1)
     }
 
+    // The PDF of an invalid code changes nothing else.
     fn count_less(self) -> Machine
         requires { ⌜ Sound self × Shown self Verdict.ClosesInvalid ⌝ }
         ensures { λ r. ⌜ Stands r (after (meaning self) rules.closesInvalid) (counts self) ⌝ }
