@@ -3,3 +3,5 @@
 pub mod answers;
 pub mod base;
 pub mod cut;
+pub mod explicit_levels;
+pub mod resolve_levels;

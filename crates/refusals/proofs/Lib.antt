@@ -1,2 +1,3 @@
 pub mod CheckLaws
 pub mod PageLaws
+pub mod SoundLaws

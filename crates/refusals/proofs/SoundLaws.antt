@@ -1,0 +1,102 @@
+-- What is known of an input once the checks of a job found nothing wrong. Assumes nothing.
+use Prim.Native.Nat.{ℕ, suc, _-_, _≤_, _<_}
+use native.Mathlib.Omega.{arith}
+use mathlib.Core.Path.{_≡_, refl, sym, _∙_}
+use mathlib.Core.Bool.{Bool, true, false, _||_, not}
+use mathlib.Core.List.{List}
+use borrow.Author.Tests.{ltb-false, leb-false, not-false}
+use lib.Dec.{leb, ltb}
+use lib.ListN.{length}
+use Rattle.rules.specs.Refusals.{Check, sound, refuse, _then_, refuseWhere, isEmpty, checkSome, checkLength, firstFault, checkClasses, checkRequest, checkBase, checkLevelRoom, firstBadLevel, checkLine, checkOrderRoom, endsRise, checkEnds, checksOfLevels, checksOfOrder, checksOfLine, checksOfLines}
+
+never-sound : {number place : ℕ} → refuse number place ≡ sound → ⊥
+never-sound e = let z : _≡_ {A = ℕ} 0 1 = cc in omega arith
+
+both-sound : (a b : Check) → (a then b) ≡ sound → (a ≡ sound) × (b ≡ sound)
+both-sound sound b e = (refl, e)
+both-sound (refuse number place) b e = absurd (never-sound e)
+
+test-fails : (b : Bool) (number : ℕ) → refuseWhere b number ≡ sound → b ≡ false
+test-fails false number e = refl
+test-fails true number e = absurd (never-sound e)
+
+neither : (a b : Bool) → (a || b) ≡ false → (a ≡ false) × (b ≡ false)
+neither false b e = (refl, e)
+neither true b e = let z : _≡_ {A = ℕ} 0 1 = cc in absurd (omega arith)
+
+classes-length : (cs : List ℕ) → checkClasses cs ≡ sound → length cs ≤ 4096
+unfolding checkClasses checkLength
+classes-length cs e =
+    ltb-false 4096 (length cs)
+    (test-fails _ _ (both-sound (checkLength cs) (firstFault 0 cs) (both-sound (checkSome cs) _ e .1) .0))
+
+pub record LevelsSound (cs : List ℕ) (request room : ℕ) : Type 0 where
+  pub classes : checkClasses cs ≡ sound
+  pub few : length cs ≤ 4096
+  pub asked : request ≤ 2
+  pub fits : length cs ≤ room
+
+pub levels-sound : (cs : List ℕ) (request room : ℕ) → checksOfLevels cs request room ≡ sound → LevelsSound cs request room
+unfolding checksOfLevels checkRequest checkLevelRoom
+levels-sound cs request room e =
+    let both = both-sound (checkClasses cs) (checkRequest request then checkLevelRoom cs room) e in
+    let later = both-sound (checkRequest request) (checkLevelRoom cs room) (both .1) in
+    record {
+      classes = both .0;
+      few = classes-length cs (both .0);
+      asked = ltb-false 2 request (test-fails _ _ (later .0));
+      fits = ltb-false room (length cs) (test-fails _ _ (later .1));
+    }
+
+pub record OrderSound (cs levels : List ℕ) (base : ℕ) : Type 0 where
+  pub few : length cs ≤ 4096
+  pub low : base ≤ 1
+  pub fits : length cs ≤ length levels
+
+order-sound : (cs levels : List ℕ) (base : ℕ) → checksOfOrder cs levels base ≡ sound → OrderSound cs levels base
+unfolding checksOfOrder checkBase checkLevelRoom
+order-sound cs levels base e =
+    let both = both-sound (checkClasses cs) (checkBase base then checkLevelRoom cs (length levels) then firstBadLevel 0 cs levels) e in
+    let later = both-sound (checkBase base) (checkLevelRoom cs (length levels) then firstBadLevel 0 cs levels) (both .1) in
+    let last = both-sound (checkLevelRoom cs (length levels)) (firstBadLevel 0 cs levels) (later .1) in
+    record {
+      few = classes-length cs (both .0);
+      low = ltb-false 1 base (test-fails _ _ (later .0));
+      fits = ltb-false (length levels) (length cs) (test-fails _ _ (last .0));
+    }
+
+pub record LineSound (cs levels : List ℕ) (base from to room : ℕ) : Type 0 where
+  pub order : OrderSound cs levels base
+  pub line : from < to
+  pub within : to ≤ length cs
+  pub fits : to - from ≤ room
+
+pub line-sound : (cs levels : List ℕ) (base from to room : ℕ) → checksOfLine cs levels base from to room ≡ sound → LineSound cs levels base from to room
+unfolding checksOfLine checkLine checkOrderRoom
+line-sound cs levels base from to room e =
+    let both = both-sound (checksOfOrder cs levels base) (checkLine cs from to then checkOrderRoom (to - from) room) e in
+    let later = both-sound (checkLine cs from to) (checkOrderRoom (to - from) room) (both .1) in
+    let line = neither (leb to from) (ltb (length cs) to) (test-fails _ _ (later .0)) in
+    record {
+      order = order-sound cs levels base (both .0);
+      line = leb-false to from (line .0);
+      within = ltb-false (length cs) to (line .1);
+      fits = ltb-false room (to - from) (test-fails _ _ (later .1));
+    }
+
+pub record LinesSound (cs levels : List ℕ) (base : ℕ) (ends : List ℕ) (room : ℕ) : Type 0 where
+  pub order : OrderSound cs levels base
+  pub rise : endsRise 0 ends (length cs) ≡ true
+  pub fits : length cs ≤ room
+
+pub lines-sound : (cs levels : List ℕ) (base : ℕ) (ends : List ℕ) (room : ℕ) → checksOfLines cs levels base ends room ≡ sound → LinesSound cs levels base ends room
+unfolding checksOfLines checkEnds checkOrderRoom
+lines-sound cs levels base ends room e =
+    let both = both-sound (checksOfOrder cs levels base) (checkEnds cs ends then checkOrderRoom (length cs) room) e in
+    let later = both-sound (checkEnds cs ends) (checkOrderRoom (length cs) room) (both .1) in
+    let ends-ok = neither (isEmpty ends) (not (endsRise 0 ends (length cs))) (test-fails _ _ (later .0)) in
+    record {
+      order = order-sound cs levels base (both .0);
+      rise = not-false (endsRise 0 ends (length cs)) (ends-ok .1);
+      fits = ltb-false room (length cs) (test-fails _ _ (later .1));
+    }
