@@ -2,3 +2,4 @@ pub mod RunLaws
 pub mod ScatterLaws
 pub mod KeptLaws
 pub mod WholeLaws
+pub mod BoundLaws

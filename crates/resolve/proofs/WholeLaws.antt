@@ -30,7 +30,7 @@ unfolding resolvedLevels
 length-resolved base cs = length-put-back cs _
 
 -- as many are gathered as are kept
-length-kept-in : (cs xs : List ℕ) → length xs ≡ length cs → length (kept cs xs) ≡ keptIn cs
+pub length-kept-in : (cs xs : List ℕ) → length xs ≡ length cs → length (kept cs xs) ≡ keptIn cs
 unfolding kept keptIn
 length-kept-in [] xs e = refl
 length-kept-in (c ∷ cs) [] e = absurd (omega arith)
