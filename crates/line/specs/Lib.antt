@@ -1,0 +1,2 @@
+-- What the contracts of this crate say of results and lent memory.
+pub mod Gathered
