@@ -2,3 +2,5 @@
 pub mod Filling
 pub mod ResetLaws
 pub mod GatherLaws
+pub mod ScanLaws
+pub mod TurnLaws

@@ -3,15 +3,16 @@
 // every index goes through one of them.
 ghost use mathlib.Core.Path.{_≡_};
 ghost use mathlib.Core.Bool.{Bool, true, false, _||_, _&&_};
-ghost use Prim.Native.Nat.{ℕ, _+_, _-_, _≤_, _<_};
-ghost use mathlib.Core.List.{map};
+ghost use Prim.Native.Nat.{ℕ, _+_, _-_, _≤_, _<_, max, min};
+ghost use mathlib.Core.List.{[]};
 ghost use lib.ListN.{length, getD, set, take, drop};
 ghost use lib.Dec.{eqb};
 ghost use Rattle.rules.specs.Choice.{if_then_else_, isOdd};
 ghost use Rattle.rules.specs.Classes.{isRemoved, isSeparator, isBlank};
 ghost use Rattle.rules.specs.Jobs.{over};
-ghost use Rattle.rules.specs.Line.{L1, items};
+ghost use Rattle.rules.specs.Line.{L1, items, highest, lowestOdd};
 ghost use Rattle.line.specs.Gathered.{Gathered};
+ghost use Rattle.line.specs.Passes.{atLevels, span, passBy, passesBy, Turned};
 
 // A position of the classes and levels, in memory order.
 pub struct Position(pub usize);
@@ -137,4 +138,131 @@ fn gather(classes: &[u8], from: Position, levels: &mut [u8], order: &mut [u16]) 
         }
     }
     k
+}
+
+// Levels are compared as wider numbers, so that one above the highest fits too.
+fn wide(level: u8) -> u16
+    ensures { λ r. ⌜ r ≡ level ⌝ }
+{
+    level as u16
+}
+
+fn higher(a: u16, b: u16) -> u16
+    ensures { λ r. ⌜ r ≡ max a b ⌝ }
+{
+    if a < b { b } else { a }
+}
+
+fn highest_level(levels: &[u8]) -> u16
+    ensures { λ r. ⌜ r ≡ highest (atLevels (now (levels .entry))) ⌝ }
+{
+    let mut top = 0;
+    let mut i = 0;
+    while i < levels.len() {
+        top = higher(top, wide(level_of(levels, Place(i))));
+        i += 1;
+    }
+    top
+}
+
+fn lower_odd(low: u16, level: u16) -> u16
+    ensures { λ r. ⌜ r ≡ (if isOdd level then min level low else low) ⌝ }
+{
+    if level % 2 == 1 {
+        if level < low {
+            return level;
+        }
+        return low;
+    }
+    low
+}
+
+// The lowest odd level, or `none` where there is none.
+fn lowest_odd_level(levels: &[u8], none: u16) -> u16
+    ensures { λ r. ⌜ r ≡ lowestOdd none (atLevels (now (levels .entry))) ⌝ }
+{
+    let mut low = none;
+    let mut i = 0;
+    while i < levels.len() {
+        low = lower_odd(low, wide(level_of(levels, Place(i))));
+        i += 1;
+    }
+    low
+}
+
+fn position_of(order: &[u16], at: Place) -> Position
+    requires { ⌜ at .0 < length (now order) ⌝ }
+    ensures { λ r. ⌜ (r .0 ≡ getD (now (order .entry)) (at .0) 0) × (r .0 < 65536) ⌝ }
+{
+    let i = at.0;
+    Position(order[i] as usize)
+}
+
+fn swap(order: &mut [u16], a: Place, b: Place)
+    requires { ⌜ a .0 < length (now order) ⌝ }
+    requires { ⌜ b .0 < length (now order) ⌝ }
+    ensures { λ r. ⌜ now (order .exit) ≡ set (set (now (order .entry)) (a .0) (getD (now (order .entry)) (b .0) 0)) (b .0) (getD (now (order .entry)) (a .0) 0) ⌝ }
+{
+    let left = position_of(order, a);
+    let right = position_of(order, b);
+    put(order, a, right);
+    put(order, b, left);
+}
+
+// What stands from one place up to, not including, another is turned round.
+fn reverse(order: &mut [u16], from: Place, to: Place)
+    requires { ⌜ from .0 ≤ to .0 ⌝ }
+    requires { ⌜ to .0 ≤ length (now order) ⌝ }
+    ensures { λ r. ⌜ Turned (from .0) (to .0) (now (order .entry)) (now (order .exit)) ⌝ }
+{
+    let mut i = from.0;
+    let mut j = to.0;
+    while 1 < j - i {
+        j -= 1;
+        swap(order, Place(i), Place(j));
+        i += 1;
+    }
+}
+
+// The first place from `from` on that is below the level, or the end.
+fn stretch_end(levels: &[u8], from: Place, level: u16) -> Place
+    requires { ⌜ from .0 ≤ length (now levels) ⌝ }
+    ensures { λ r. ⌜ r .0 ≡ from .0 + span level (drop (from .0) (now (levels .entry))) ⌝ }
+{
+    let mut i = from.0;
+    while i < levels.len() {
+        if wide(level_of(levels, Place(i))) < level {
+            return Place(i);
+        }
+        i += 1;
+    }
+    Place(i)
+}
+
+// One pass: every longest stretch at the level or above is turned round.
+fn pass(level: u16, levels: &[u8], order: &mut [u16])
+    requires { ⌜ length (now levels) ≤ length (now order) ⌝ }
+    ensures { λ r. ⌜ now (order .exit) ≡ passBy level [] (now (levels .entry)) (now (order .entry)) ⌝ }
+{
+    let mut i = 0;
+    while i < levels.len() {
+        let end = stretch_end(levels, Place(i), level);
+        reverse(order, Place(i), end);
+        i = end.0 + 1;
+    }
+}
+
+// A pass, then the next with the level one lower.
+fn passes(level: u16, lowest: u16, levels: &[u8], order: &mut [u16])
+    requires { ⌜ length (now levels) ≤ length (now order) ⌝ }
+    ensures { λ r. ⌜ now (order .exit) ≡ passesBy level lowest (now (levels .entry)) (now (order .entry)) ⌝ }
+{
+    if level == 0 {
+        return;
+    }
+    if level < lowest {
+        return;
+    }
+    pass(level, levels, order);
+    passes(level - 1, lowest, levels, order);
 }
