@@ -4,8 +4,8 @@ use Prim.Native.Nat.{ℕ, suc, _+_, _-_, _≤_, _<_}
 use native.Mathlib.Omega.{arith}
 use mathlib.Core.Path.{_≡_, refl, sym, ap, subst, _∙_}
 use mathlib.Core.List.{List, [], _∷_, _++_, append-nil, append-assoc}
-use lib.ListN.{length, getD, take, drop, set, length-append, length-set, length-drop, take-append-drop}
-use lib.Seq.{drop-drop, getD-drop, length-take-le, drop-at, take-at}
+use lib.ListN.{length, getD, take, drop, set, length-set, take-append-drop}
+use lib.Seq.{drop-drop, getD-drop, length-take-le, take-add}
 use Rattle.rules.specs.Jobs.{over}
 use Rattle.rules.proofs.Lists.{take-set-next, drop-set-next}
 
@@ -40,3 +40,25 @@ module _ (whole out₀ out : List ℕ) (k : ℕ) where
         sym (take-append-drop k out) ∙ (λ j. front j ++ f .beyond j) ∙ ap (λ (n : ℕ). whole ++ drop n out₀) count,
         count,
       )
+
+  -- a place that already holds what is to stand there
+  pub filled-stays : (rest : List ℕ) → Filled whole out₀ out k (take 1 (drop k out₀) ++ rest) → Filled whole out₀ out (k + 1) rest
+  filled-stays rest f = record {
+    long = f .long;
+    written = ap (λ (l : List ℕ). l ++ rest) (take-add k 1 out ∙ ap (λ (l : List ℕ). take k out ++ take 1 l) (f .beyond))
+        ∙ append-assoc (take k out) (take 1 (drop k out₀)) rest ∙ f .written;
+    beyond = sym (drop-drop 1 k out) ∙ ap (drop 1) (f .beyond) ∙ drop-drop 1 k out₀;
+  }
+
+  -- several places are written at once: up to k as it was, then the part, then what stood behind it
+  pub filled-part : (out′ part rest : List ℕ) (e : ℕ) → length out′ ≡ length out → take e out′ ≡ take k out ++ part → drop e out′ ≡ drop e out → k ≤ e → Filled whole out₀ out k (part ++ rest) → Filled whole out₀ out′ e rest
+  filled-part out′ part rest e l t d h f =
+      let to : k + (e - k) ≡ e = omega arith in
+      let as-it-was : drop e out ≡ drop e out₀ =
+      ap (λ (n : ℕ). drop n out) (sym to) ∙ sym (drop-drop (e - k) k out) ∙ ap (drop (e - k)) (f .beyond)
+      ∙ drop-drop (e - k) k out₀ ∙ ap (λ (n : ℕ). drop n out₀) to in
+      record {
+        long = l ∙ f .long;
+        written = ap (λ (x : List ℕ). x ++ rest) t ∙ append-assoc (take k out) part rest ∙ f .written;
+        beyond = d ∙ as-it-was;
+      }

@@ -4,3 +4,4 @@ pub mod ResetLaws
 pub mod GatherLaws
 pub mod ScanLaws
 pub mod TurnLaws
+pub mod PassLaws

@@ -33,10 +33,12 @@ loop-less : tie.Need-loop-less Inv-loop μ-loop
 loop-less c = search needs
 
 loop-again : tie.Need-loop-again Inv-loop μ-loop
-loop-again c =
-    (search needs, scan-next lowOf _ _ _ _ _
-    (lowOf-next _ _ _ _ (c .lower-odd .ensures) (c .before .wide .ensures ∙ c .before .before .level-of .ensures))
-    (c .before .before .before .loop-test .taken) (c .before .before .before .before .loop .inv .1))
+loop-again c = (
+  search needs,
+  scan-next lowOf _ _ _ _ _
+      (lowOf-next _ _ _ _ (c .lower-odd .ensures) (c .before .wide .ensures ∙ c .before .before .level-of .ensures))
+      (c .before .before .before .loop-test .taken) (c .before .before .before .before .loop .inv .1),
+)
 
 returns : tie.Need-returns Inv-loop μ-loop
 returns c = sym (lowOf-none _) ∙ scan-ended lowOf _ _ _ _ (c .loop-test .left) (c .before .loop .inv .1)
