@@ -5,3 +5,4 @@ pub mod GatherLaws
 pub mod ScanLaws
 pub mod TurnLaws
 pub mod PassLaws
+pub mod ItemLaws
