@@ -6,3 +6,4 @@ pub mod ScanLaws
 pub mod TurnLaws
 pub mod PassLaws
 pub mod ItemLaws
+pub mod LineLaws

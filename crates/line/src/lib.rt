@@ -2,7 +2,7 @@
 // A position in memory order and a place on the display are counted apart, each by its own type, and
 // every index goes through one of them.
 ghost use mathlib.Core.Path.{_≡_};
-ghost use mathlib.Core.Bool.{Bool, true, false, _||_, _&&_};
+ghost use mathlib.Core.Bool.{true, _||_, _&&_};
 ghost use Prim.Native.Nat.{ℕ, _+_, _-_, _≤_, _<_, max, min};
 ghost use mathlib.Core.List.{[]};
 ghost use lib.ListN.{length, getD, set, take, drop};
@@ -10,8 +10,10 @@ ghost use lib.Dec.{eqb};
 ghost use Rattle.rules.specs.Choice.{if_then_else_, isOdd};
 ghost use Rattle.rules.specs.Classes.{isRemoved, isSeparator, isBlank};
 ghost use Rattle.rules.specs.Jobs.{over};
-ghost use Rattle.rules.specs.Line.{L1, items, highest, lowestOdd};
-ghost use Rattle.line.specs.Gathered.{Gathered};
+ghost use Rattle.rules.specs.Line.{L1, L2, items, highest, lowestOdd, lineOrder, allOrders};
+ghost use Rattle.rules.specs.Refusals.{endsRise};
+ghost use Rattle.line.specs.Gathered.{Gathered, positions, levelsOf};
+ghost use Rattle.line.specs.Ordered.{Ordered};
 ghost use Rattle.line.specs.Passes.{atLevels, span, passBy, passesBy, Turned};
 
 // A position of the classes and levels, in memory order.
@@ -155,6 +157,7 @@ fn higher(a: u16, b: u16) -> u16
 
 fn highest_level(levels: &[u8]) -> u16
     ensures { λ r. ⌜ r ≡ highest (atLevels (now (levels .entry))) ⌝ }
+    ensures { λ r. ⌜ r < 256 ⌝ }
 {
     let mut top = 0;
     let mut i = 0;
@@ -265,4 +268,67 @@ fn passes(level: u16, lowest: u16, levels: &[u8], order: &mut [u16])
     }
     pass(level, levels, order);
     passes(level - 1, lowest, levels, order);
+}
+
+// The order of a line, given its own classes and levels, with a work buffer for the line's levels.
+fn order_with(classes: &[u8], levels: &[u8], base: u8, from: Position, work: &mut [u8], order: &mut [u16]) -> usize
+    requires { ⌜ length (now levels) ≡ length (now classes) ⌝ }
+    requires { ⌜ length (now classes) ≤ length (now work) ⌝ }
+    requires { ⌜ length (now classes) ≤ length (now order) ⌝ }
+    requires { ⌜ from .0 + length (now classes) ≤ 65536 ⌝ }
+    ensures { λ r. ⌜ Ordered (positions (L2 (items (from .0) (now (classes .entry)) (L1 base (now (classes .entry)) (now (levels .entry)))))) (now (order .entry)) r (now (order .exit)) ⌝ }
+    ensures { λ r. ⌜ now (work .exit) ≡ over (levelsOf (items (from .0) (now (classes .entry)) (L1 base (now (classes .entry)) (now (levels .entry))))) (over (L1 base (now (classes .entry)) (now (levels .entry))) (now (work .entry))) ⌝ }
+{
+    reset(classes, levels, base, work);
+    let count = gather(classes, from, work, order);
+    let kept = &work[..count];
+    let top = highest_level(kept);
+    let lowest = lowest_odd_level(kept, top + 1);
+    passes(top, lowest, kept, order);
+    count
+}
+
+// The order of the line from one position up to, not including, another. The work buffer is chosen by
+// the line's length, so that a short label does not pay for the longest line.
+pub fn order_line(classes: &[u8], levels: &[u8], base: u8, from: usize, to: usize, order: &mut [u16]) -> usize
+    requires { ⌜ from ≤ to ⌝ }
+    requires { ⌜ to ≤ length (now classes) ⌝ }
+    requires { ⌜ length (now classes) ≤ length (now levels) ⌝ }
+    requires { ⌜ length (now classes) ≤ 4096 ⌝ }
+    requires { ⌜ to - from ≤ length (now order) ⌝ }
+    ensures { λ r. ⌜ Ordered (lineOrder base (now (classes .entry)) (now (levels .entry)) from to) (now (order .entry)) r (now (order .exit)) ⌝ }
+{
+    if to - from <= 64 {
+        let mut short = [0u8; 64];
+        return order_with(&classes[from..to], &levels[from..to], base, Position(from), &mut short, order);
+    }
+    let mut long = [0u8; 4096];
+    order_with(&classes[from..to], &levels[from..to], base, Position(from), &mut long, order)
+}
+
+fn end_at(ends: &[u16], i: usize) -> usize
+    requires { ⌜ i < length (now ends) ⌝ }
+    ensures { λ r. ⌜ r ≡ getD (now (ends .entry)) i 0 ⌝ }
+{
+    ends[i] as usize
+}
+
+// The orders of all lines, each following the last one's.
+pub fn order_lines(classes: &[u8], levels: &[u8], base: u8, ends: &[u16], order: &mut [u16]) -> usize
+    requires { ⌜ length (now classes) ≤ length (now levels) ⌝ }
+    requires { ⌜ length (now classes) ≤ 4096 ⌝ }
+    requires { ⌜ endsRise 0 (now ends) (length (now classes)) ≡ true ⌝ }
+    requires { ⌜ length (now classes) ≤ length (now order) ⌝ }
+    ensures { λ r. ⌜ Ordered (allOrders base (now (classes .entry)) (now (levels .entry)) 0 (now (ends .entry))) (now (order .entry)) r (now (order .exit)) ⌝ }
+{
+    let mut from = 0;
+    let mut count = 0;
+    let mut i = 0;
+    while i < ends.len() {
+        let to = end_at(ends, i);
+        count += order_line(classes, levels, base, from, to, &mut order[count..]);
+        from = to;
+        i += 1;
+    }
+    count
 }
