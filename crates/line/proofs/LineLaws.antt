@@ -6,10 +6,11 @@ use native.Mathlib.Numerals.{add-one}
 use native.Mathlib.Omega.{arith}
 use mathlib.Core.Path.{_≡_, refl, sym, ap, subst, _∙_}
 use mathlib.Core.Bool.{Bool, true, false}
-use mathlib.Core.List.{List, [], _∷_, _++_, append-assoc}
+use mathlib.Core.List.{List, [], _∷_, _++_, append-assoc, append-nil}
 use lib.Dec.{leb, ltb, eqb}
 use lib.ListN.{length, getD, take, drop, length-append, length-drop, length-map, drop-of-length-le, take-append-drop}
-use lib.Seq.{take-at, drop-at, drop-drop, length-take-le}
+use lib.Seq.{take-at, drop-at, drop-drop, length-take-le, take-all, drop-length}
+use borrow.Rule.Slice.PartMut.{putMid, post-is}
 use borrow.Author.Tests.{ltb-true, eqb-true}
 use Rattle.rules.specs.Choice.{if_then_else_}
 use Rattle.rules.specs.Classes.{isRemoved}
@@ -136,3 +137,110 @@ length-lineOrder base cs ls from to h =
     let k : length cs′ ≡ to - from = length-part from to cs h in
     let l : length (lineOrder base cs ls from to) ≡ length (positions (L2 xs)) = ap length (sym (of-parts base from to cs ls)) in
     omega arith
+
+-- all lines: the next end lies past the last one and within the paragraph
+module _ (from to : ℕ) (ends : List ℕ) (last : ℕ) where
+  rises-if : (b : Bool) → ltb from to ≡ b → (if b then endsRise to ends last else false) ≡ true → (from < to) × (endsRise to ends last ≡ true)
+  rises-if true e r = (ltb-true from to e, r)
+  rises-if false e r = let z : _≡_ {A = ℕ} 0 1 = cc in absurd (omega arith)
+
+  rises-on : endsRise from (to ∷ ends) last ≡ true → (from < to) × (endsRise to ends last ≡ true)
+  unfolding endsRise
+  rises-on r = rises-if (ltb from to) refl r
+
+rises-within : (from : ℕ) (ends : List ℕ) (last : ℕ) → endsRise from ends last ≡ true → from ≤ last
+unfolding endsRise
+rises-within from [] last r = let e : from ≡ last = eqb-true from last r in omega arith
+rises-within from (to ∷ ends) last r =
+    let on = rises-on from to ends last r in
+    let h : to ≤ last = rises-within to ends last (on .1) in
+    omega arith
+
+-- the lines before number i are ordered, `from` being where line i begins
+pub record Lines (base : ℕ) (cs ls ends order₀ order : List ℕ) (from count i : ℕ) : Type 0 where
+  pub within : i ≤ length ends
+  pub behind : count ≤ from
+  pub inside : from ≤ length cs
+  pub rises : endsRise from (drop i ends) (length cs) ≡ true
+  pub filled : Filled (allOrders base cs ls 0 ends) order₀ order count (allOrders base cs ls from (drop i ends))
+
+pub lines-begun : (base : ℕ) (cs ls ends order : List ℕ) → endsRise 0 ends (length cs) ≡ true → Lines base cs ls ends order order 0 0 0
+lines-begun base cs ls ends order r = record {
+  within = omega arith;
+  behind = omega arith;
+  inside = omega arith;
+  rises = r;
+  filled = filled-begun (allOrders base cs ls 0 ends) order;
+}
+
+module _ (base : ℕ) (cs ls ends order₀ order : List ℕ) (from count i : ℕ) (l : Lines base cs ls ends order₀ order from count i) where
+  module _ (h : i < length ends) (to : ℕ) (end : to ≡ getD ends i 0) where
+    ends-next : drop i ends ≡ to ∷ drop (i + 1) ends
+    ends-next = drop-next ends i h ∙ ap (λ (n : ℕ). n ∷ drop (i + 1) ends) (sym end)
+
+    next-rises : (from < to) × (endsRise to (drop (i + 1) ends) (length cs) ≡ true)
+    next-rises = rises-on from to (drop (i + 1) ends) (length cs) (subst (λ (es : List ℕ). endsRise from es (length cs) ≡ true) ends-next (l .rises))
+
+    -- the next line, where it begins and ends
+    pub next-line : (from < to) × (to ≤ length cs)
+    next-line = (next-rises .0, rises-within to (drop (i + 1) ends) (length cs) (next-rises .1))
+
+    orders-next : allOrders base cs ls from (drop i ends) ≡ lineOrder base cs ls from to ++ allOrders base cs ls to (drop (i + 1) ends)
+    unfolding allOrders
+    orders-next = ap (allOrders base cs ls from) ends-next
+
+    -- the call is lent the places from count on
+    lent-is : take (length order - count) (drop count order) ≡ drop count order
+    lent-is = take-all (length order - count) (drop count order) (simp length-drop (omega arith))
+
+    pub lent-room : length cs ≤ length order₀ → to - from ≤ length (take (length order - count) (drop count order))
+    lent-room room =
+        let n : length (take (length order - count) (drop count order)) ≡ length order - count = ap length lent-is ∙ length-drop count order in
+        let m : length order ≡ length order₀ = l .filled .long in
+        let b : count ≤ from = l .behind in
+        let w = next-line in
+        omega arith
+
+    -- and so many of them are written, which leaves room for the lines to come
+    pub count-next : (r : ℕ) → r ≡ length (lineOrder base cs ls from to) → count + r ≤ to
+    count-next r n =
+        let w = next-line in
+        let b : count ≤ from = l .behind in
+        let long : length (lineOrder base cs ls from to) ≤ to - from = length-lineOrder base cs ls from to (w .1) in
+        omega arith
+
+    pub lines-next : (r : ℕ) (part′ order′ : List ℕ) → length cs ≤ length order₀ → Ordered (lineOrder base cs ls from to) (take (length order - count) (drop count order)) r part′ → order′ ≡ putMid count (length order - count) order part′ → Lines base cs ls ends order₀ order′ to (count + r) (i + 1)
+    lines-next r part′ order′ room o e =
+        let w = next-line in
+        let m : length order ≡ length order₀ = l .filled .long in
+        let n : r ≡ length (lineOrder base cs ls from to) = o .count in
+        let within : count + r ≤ to = count-next r n in
+        let line : List ℕ = lineOrder base cs ls from to in
+        let part-is : part′ ≡ line ++ drop (count + r) order =
+        o .placed ∙ ap (λ (x : List ℕ). line ++ drop (length line) x) lent-is ∙ ap (λ (x : List ℕ). line ++ x) (drop-drop (length line) count order)
+        ∙ ap (λ (x : ℕ). line ++ drop (count + x) order) (sym n) in
+        let order-is : order′ ≡ (take count order ++ line) ++ drop (count + r) order =
+        e ∙ ap (λ (x : List ℕ). take count order ++ (part′ ++ x)) (post-is count (length order) order (omega (arith, l .behind)) ∙ drop-length order)
+        ∙ ap (λ (x : List ℕ). take count order ++ x) (append-nil part′ ∙ part-is)
+        ∙ sym (append-assoc (take count order) line (drop (count + r) order)) in
+        let front : length (take count order ++ line) ≡ count + r =
+        length-append (take count order) line ∙ (λ j. length-take-le count order (omega (arith, l .behind)) j + sym n j) in
+        record {
+          within = omega arith;
+          behind = within;
+          inside = w .1;
+          rises = next-rises .1;
+          filled = filled-part (allOrders base cs ls 0 ends) order₀ order count order′ line (allOrders base cs ls to (drop (i + 1) ends)) (count + r)
+              (ap length order-is ∙ length-append (take count order ++ line) (drop (count + r) order) ∙ (λ j. front j + length-drop (count + r) order j) ∙ omega arith)
+              (ap (take (count + r)) order-is ∙ take-at (take count order ++ line) (drop (count + r) order) (count + r) front)
+              (ap (drop (count + r)) order-is ∙ drop-at (take count order ++ line) (drop (count + r) order) (count + r) front)
+              (omega arith) (subst (Filled (allOrders base cs ls 0 ends) order₀ order count) orders-next (l .filled));
+        }
+
+  pub lines-ended : length cs ≤ length order₀ → length ends ≤ i → Ordered (allOrders base cs ls 0 ends) order₀ count order
+  unfolding allOrders
+  lines-ended room h =
+      let m : length order ≡ length order₀ = l .filled .long in
+      let d = filled-ended (allOrders base cs ls 0 ends) order₀ order count (omega (arith, l .behind, l .inside))
+      (subst (λ (es : List ℕ). Filled (allOrders base cs ls 0 ends) order₀ order count (allOrders base cs ls from es)) (drop-of-length-le ends h) (l .filled)) in
+      record { count = d .1; placed = d .0 }

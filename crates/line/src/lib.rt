@@ -271,7 +271,14 @@ fn passes(level: u16, lowest: u16, levels: &[u8], order: &mut [u16])
 }
 
 // The order of a line, given its own classes and levels, with a work buffer for the line's levels.
-fn order_with(classes: &[u8], levels: &[u8], base: u8, from: Position, work: &mut [u8], order: &mut [u16]) -> usize
+fn order_with(
+    classes: &[u8],
+    levels: &[u8],
+    base: u8,
+    from: Position,
+    work: &mut [u8],
+    order: &mut [u16],
+) -> usize
     requires { ⌜ length (now levels) ≡ length (now classes) ⌝ }
     requires { ⌜ length (now classes) ≤ length (now work) ⌝ }
     requires { ⌜ length (now classes) ≤ length (now order) ⌝ }
@@ -290,7 +297,14 @@ fn order_with(classes: &[u8], levels: &[u8], base: u8, from: Position, work: &mu
 
 // The order of the line from one position up to, not including, another. The work buffer is chosen by
 // the line's length, so that a short label does not pay for the longest line.
-pub fn order_line(classes: &[u8], levels: &[u8], base: u8, from: usize, to: usize, order: &mut [u16]) -> usize
+pub fn order_line(
+    classes: &[u8],
+    levels: &[u8],
+    base: u8,
+    from: usize,
+    to: usize,
+    order: &mut [u16],
+) -> usize
     requires { ⌜ from ≤ to ⌝ }
     requires { ⌜ to ≤ length (now classes) ⌝ }
     requires { ⌜ length (now classes) ≤ length (now levels) ⌝ }
@@ -300,10 +314,24 @@ pub fn order_line(classes: &[u8], levels: &[u8], base: u8, from: usize, to: usiz
 {
     if to - from <= 64 {
         let mut short = [0u8; 64];
-        return order_with(&classes[from..to], &levels[from..to], base, Position(from), &mut short, order);
+        return order_with(
+            &classes[from..to],
+            &levels[from..to],
+            base,
+            Position(from),
+            &mut short,
+            order,
+        );
     }
     let mut long = [0u8; 4096];
-    order_with(&classes[from..to], &levels[from..to], base, Position(from), &mut long, order)
+    order_with(
+        &classes[from..to],
+        &levels[from..to],
+        base,
+        Position(from),
+        &mut long,
+        order,
+    )
 }
 
 fn end_at(ends: &[u16], i: usize) -> usize
@@ -314,7 +342,13 @@ fn end_at(ends: &[u16], i: usize) -> usize
 }
 
 // The orders of all lines, each following the last one's.
-pub fn order_lines(classes: &[u8], levels: &[u8], base: u8, ends: &[u16], order: &mut [u16]) -> usize
+pub fn order_lines(
+    classes: &[u8],
+    levels: &[u8],
+    base: u8,
+    ends: &[u16],
+    order: &mut [u16],
+) -> usize
     requires { ⌜ length (now classes) ≤ length (now levels) ⌝ }
     requires { ⌜ length (now classes) ≤ 4096 ⌝ }
     requires { ⌜ endsRise 0 (now ends) (length (now classes)) ≡ true ⌝ }

@@ -36,10 +36,13 @@ loop-less : tie.Need-loop-less Inv-loop μ-loop
 loop-less c = search needs
 
 loop-again : tie.Need-loop-again Inv-loop μ-loop
-loop-again c =
-    (search needs, scan-next topOf _ _ _ _ _
-    (topOf-next _ _ _ _ (c .higher .ensures) (c .before .wide .ensures ∙ c .before .before .level-of .ensures))
-    (c .before .before .before .loop-test .taken) (c .before .before .before .before .loop .inv .1), omega (arith, c .before .before .level-of .ok))
+loop-again c = (
+  search needs,
+  scan-next topOf _ _ _ _ _
+      (topOf-next _ _ _ _ (c .higher .ensures) (c .before .wide .ensures ∙ c .before .before .level-of .ensures))
+      (c .before .before .before .loop-test .taken) (c .before .before .before .before .loop .inv .1),
+  omega (arith, c .before .before .level-of .ok),
+)
 
 returns : tie.Need-returns Inv-loop μ-loop
 returns c = (sym (topOf-none _) ∙ scan-ended topOf _ _ _ _ (c .loop-test .left) (c .before .loop .inv .1), search needs)

@@ -61,10 +61,9 @@ returns c =
     let g = highest .before .before .before .before .before .before in
     let r = g .before .before .before .before .before in
     let start = r .before .before .before .before .before .before in
-    let args = start .args in
-    (
+    let args = start .args in (
       line-ordered (args .base) (args .from .0) (args .classes .now) (args .levels .now) (args .work .now) _ _ _ _ _ (start .pre .0) (r .reset .ensures) (g .gather .ensures)
-      _ _ _ (highest .highest-level .ensures .0) (passed .before .before .lowest-odd-level .ensures) (passed .passes .ensures),
+          _ _ _ (highest .highest-level .ensures .0) (passed .before .before .lowest-odd-level .ensures) (passed .passes .ensures),
       work-left (args .base) (args .from .0) (args .classes .now) (args .levels .now) (args .work .now) _ _ _ _ _ (start .pre .0) (r .reset .ensures) (g .gather .ensures),
     )
 
