@@ -1,9 +1,9 @@
 -- The passes of the definition move items, each with its level; the code moves positions and reads levels by place.
 -- Both give the same: a pass leaves every test on a level not above its own as it was at each place.
 -- Assumes nothing.
-use Prim.Native.Nat.{ℕ, zero, suc, _+_, _-_, _≤_, _<_, max, min}
+use Prim.Native.Nat.{ℕ, zero, suc, _≤_, max, min}
 use native.Mathlib.Omega.{arith}
-use mathlib.Core.Path.{_≡_, refl, sym, ap, subst, _∙_}
+use mathlib.Core.Path.{_≡_, refl, sym, ap, _∙_}
 use mathlib.Core.Bool.{Bool, true, false}
 use mathlib.Core.List.{List, [], _∷_, _++_, map, append-assoc}
 use lib.Dec.{leb}

@@ -1,21 +1,20 @@
 -- One pass, stretch by stretch: the first stretch turned round, the place behind it, and the pass over what is left.
 -- Assumes nothing.
-use Prim.Native.Nat.{ℕ, zero, suc, _+_, _-_, _≤_, _<_, min}
+use Prim.Native.Nat.{ℕ, zero, suc, _+_, _-_, _≤_, _<_}
 use native.Mathlib.Nat.{zero-add}
-use native.Mathlib.Numerals.{add-one}
 use native.Mathlib.Omega.{arith}
 use mathlib.Core.Path.{_≡_, refl, sym, ap, subst, _∙_}
 use mathlib.Core.Logic.{_⊎_, inl, inr}
 use mathlib.Core.Bool.{Bool, true, false}
-use mathlib.Core.List.{List, [], _∷_, _++_, append-assoc, reverse, reverseAux}
+use mathlib.Core.List.{List, [], _∷_, _++_, reverse, reverseAux}
 use lib.Dec.{leb}
 use borrow.Author.Tests.{le-leb, lt-leb}
-use lib.ListN.{length, getD, take, drop, length-append, length-take, length-drop, length-reverse, drop-of-length-le, take-append-drop, List·getD-append}
+use lib.ListN.{length, getD, take, drop, length-append, length-drop, length-reverse, drop-of-length-le, take-append-drop, List·getD-append}
 use lib.Seq.{drop-drop, getD-drop, getD-take, getD-append-add, length-take-le, ext-getD}
 use Rattle.rules.specs.Choice.{if_then_else_}
 use Rattle.rules.proofs.Lists.{le-or-lt}
 use Rattle.line.specs.Passes.{span, passBy, passesBy, Turned}
-use Rattle.line.proofs.Filling.{Filled, filled-begun, filled-stays, filled-part}
+use Rattle.line.proofs.Filling.{Filled, filled-stays, filled-part}
 
 -- a list reversed, by index
 past-reversed : (l r : List ℕ) (k : ℕ) → getD (reverseAux l r) (length l + k) 0 ≡ getD r k 0

@@ -3,10 +3,9 @@
 // every index goes through one of them.
 ghost use mathlib.Core.Path.{_≡_};
 ghost use mathlib.Core.Bool.{true, _||_, _&&_};
-ghost use Prim.Native.Nat.{ℕ, _+_, _-_, _≤_, _<_, max, min};
+ghost use Prim.Native.Nat.{_+_, _-_, _≤_, _<_, max, min};
 ghost use mathlib.Core.List.{[]};
-ghost use lib.ListN.{length, getD, set, take, drop};
-ghost use lib.Dec.{eqb};
+ghost use lib.ListN.{length, getD, set, drop};
 ghost use Rattle.rules.specs.Choice.{if_then_else_, isOdd};
 ghost use Rattle.rules.specs.Classes.{isRemoved, isSeparator, isBlank};
 ghost use Rattle.rules.specs.Jobs.{over};

@@ -3,7 +3,7 @@
 use mathlib.Core.Path.{sym, _∙_}
 use Prim.Native.Nat.{_-_}
 use lib.ListN.{length}
-use Rattle.line.proofs.GatherLaws.{Gathering, begun, passed-over, taken-up, ended}
+use Rattle.line.proofs.GatherLaws.{Gathering, passed-over, taken-up, ended}
 use borrow.Author.Needs.{needs}
 use Rattle.line.proofs.gather.Statement.{statement}
 use Rattle.line.proofs.gather.Tie as tie

@@ -1,6 +1,5 @@
 -- `line::reset` meets its contract. The invariant: from position i on the line is reset. The measure is the number of positions left.
 -- Assumes nothing.
-use lib.ListN.{length}
 use Rattle.line.proofs.ResetLaws.{Reset, begun, next, ended}
 use borrow.Author.Needs.{needs}
 use Rattle.line.proofs.reset.Statement.{statement}

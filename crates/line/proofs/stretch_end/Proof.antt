@@ -1,7 +1,7 @@
 -- `line::stretch_end` meets its contract. The invariant: the stretch from the first place on ends where the one from i on ends. The measure is what is left.
 -- Assumes nothing.
-use Prim.Native.Nat.{ℕ, _+_, _-_, _≤_}
-use mathlib.Core.Path.{_≡_, refl, sym, ap, _∙_}
+use Prim.Native.Nat.{_+_, _-_, _≤_}
+use mathlib.Core.Path.{_≡_, refl, sym, _∙_}
 use lib.ListN.{length, drop}
 use Rattle.line.specs.Passes.{span}
 use Rattle.line.proofs.ScanLaws.{span-stops, span-goes-on, span-ended}
