@@ -1,0 +1,99 @@
+-- The items of a line, one position at a time, and the two buffers that are filled with them.
+-- Assumes nothing.
+use Prim.Native.Nat.{ℕ, suc, _+_, _≤_, _<_}
+use native.Mathlib.Omega.{arith}
+use mathlib.Core.Path.{_≡_, sym, ap, subst, _∙_}
+use mathlib.Core.Bool.{true, false}
+use mathlib.Core.List.{List, [], _∷_}
+use lib.ListN.{length, getD, drop, set, length-map}
+use lib.Seq.{drop-length}
+use Rattle.rules.specs.Choice.{if_then_else_}
+use Rattle.rules.specs.Classes.{isRemoved}
+use Rattle.rules.specs.Line.{Item, items}
+use Rattle.rules.proofs.Lists.{drop-next}
+use Rattle.line.specs.Gathered.{Gathered, positions, levelsOf}
+use Rattle.line.proofs.Filling.{Filled, filled-begun, filled-reads, filled-next, filled-ended}
+
+-- the item at a place of the line
+abbrev pub itemAt : ℕ → List ℕ → ℕ → Item
+itemAt from ls i = record { position = from + i; level = getD ls i 0 }
+
+-- the items from place i of the line on
+abbrev pub itemsFrom : ℕ → List ℕ → List ℕ → ℕ → List Item
+itemsFrom from cs ls i = items (from + i) (drop i cs) (drop i ls)
+
+items-at : (from : ℕ) (cs ls : List ℕ) (i : ℕ) → i < length cs → i < length ls → itemsFrom from cs ls i ≡ (if isRemoved (getD cs i 0) then itemsFrom from cs ls (i + 1) else itemAt from ls i ∷ itemsFrom from cs ls (i + 1))
+unfolding items
+items-at from cs ls i h g =
+    let e : suc (from + i) ≡ from + (i + 1) = omega arith in
+    (λ j. items (from + i) (drop-next cs i h j) (drop-next ls i g j))
+    ∙ ap (λ (n : ℕ). if isRemoved (getD cs i 0) then items n (drop (i + 1) cs) (drop (i + 1) ls) else itemAt from ls i ∷ items n (drop (i + 1) cs) (drop (i + 1) ls)) e
+
+pub items-removed : (from : ℕ) (cs ls : List ℕ) (i : ℕ) → i < length cs → i < length ls → isRemoved (getD cs i 0) ≡ true → itemsFrom from cs ls i ≡ itemsFrom from cs ls (i + 1)
+items-removed from cs ls i h g e = items-at from cs ls i h g ∙ simp e
+
+pub items-kept : (from : ℕ) (cs ls : List ℕ) (i : ℕ) → i < length cs → i < length ls → isRemoved (getD cs i 0) ≡ false → itemsFrom from cs ls i ≡ itemAt from ls i ∷ itemsFrom from cs ls (i + 1)
+items-kept from cs ls i h g e = items-at from cs ls i h g ∙ simp e
+
+pub items-none : (from : ℕ) (cs ls : List ℕ) (i : ℕ) → length cs ≤ i → i ≤ length cs → itemsFrom from cs ls i ≡ []
+unfolding items
+items-none from cs ls i h g =
+    let e : i ≡ length cs = omega arith in
+    rw (e, drop-length cs)
+
+-- the positions before i are gathered, k of them kept
+pub record Gathering (from : ℕ) (cs ls₀ order₀ ls order : List ℕ) (i k : ℕ) : Type 0 where
+  pub within : i ≤ length cs
+  pub behind : k ≤ i
+  pub packed : Filled (levelsOf (itemsFrom from cs ls₀ 0)) ls₀ ls k (levelsOf (itemsFrom from cs ls₀ i))
+  pub placed : Filled (positions (itemsFrom from cs ls₀ 0)) order₀ order k (positions (itemsFrom from cs ls₀ i))
+
+pub begun : (from : ℕ) (cs ls order : List ℕ) → Gathering from cs ls order ls order 0 0
+begun from cs ls order = record {
+  within = omega arith;
+  behind = omega arith;
+  packed = filled-begun (levelsOf (itemsFrom from cs ls 0)) ls;
+  placed = filled-begun (positions (itemsFrom from cs ls 0)) order;
+}
+
+module _ (from : ℕ) (cs ls₀ order₀ ls order : List ℕ) (i k : ℕ) (lr : length cs ≤ length ls₀) (or : length cs ≤ length order₀) (class : ℕ) (ec : class ≡ getD cs i 0) where
+  pub passed-over : i < length cs → isRemoved class ≡ true → Gathering from cs ls₀ order₀ ls order i k → Gathering from cs ls₀ order₀ ls order (i + 1) k
+  passed-over h e g =
+      let same = items-removed from cs ls₀ i h (omega arith) (ap isRemoved (sym ec) ∙ e) in
+      record {
+        within = omega arith;
+        behind = omega arith;
+        packed = subst (λ (xs : List Item). Filled (levelsOf (itemsFrom from cs ls₀ 0)) ls₀ ls k (levelsOf xs)) same (g .packed);
+        placed = subst (λ (xs : List Item). Filled (positions (itemsFrom from cs ls₀ 0)) order₀ order k (positions xs)) same (g .placed);
+      }
+
+  pub taken-up : (level : ℕ) (ls′ order′ : List ℕ) → i < length cs → isRemoved class ≡ false → Gathering from cs ls₀ order₀ ls order i k → level ≡ getD ls i 0 → ls′ ≡ set ls k level → order′ ≡ set order k (from + i) → Gathering from cs ls₀ order₀ ls′ order′ (i + 1) (k + 1)
+  taken-up level ls′ order′ h e g el es eo =
+      let same = items-kept from cs ls₀ i h (omega arith) (ap isRemoved (sym ec) ∙ e) in
+      let reads : level ≡ getD ls₀ i 0 = el ∙ filled-reads (levelsOf (itemsFrom from cs ls₀ 0)) ls₀ ls k (levelsOf (itemsFrom from cs ls₀ i)) i (g .behind) (g .packed) in
+      let ll : length ls ≡ length ls₀ = g .packed .long in
+      let lo : length order ≡ length order₀ = g .placed .long in
+      record {
+        within = omega arith;
+        behind = omega arith;
+        packed = subst (λ (l : List ℕ). Filled (levelsOf (itemsFrom from cs ls₀ 0)) ls₀ l (k + 1) (levelsOf (itemsFrom from cs ls₀ (i + 1)))) (ap (set ls k) (sym reads) ∙ sym es)
+            (filled-next (levelsOf (itemsFrom from cs ls₀ 0)) ls₀ ls k (getD ls₀ i 0) (levelsOf (itemsFrom from cs ls₀ (i + 1))) (omega arith)
+            (subst (λ (xs : List Item). Filled (levelsOf (itemsFrom from cs ls₀ 0)) ls₀ ls k (levelsOf xs)) same (g .packed)));
+        placed = subst (λ (l : List ℕ). Filled (positions (itemsFrom from cs ls₀ 0)) order₀ l (k + 1) (positions (itemsFrom from cs ls₀ (i + 1)))) (sym eo)
+            (filled-next (positions (itemsFrom from cs ls₀ 0)) order₀ order k (from + i) (positions (itemsFrom from cs ls₀ (i + 1))) (omega arith)
+            (subst (λ (xs : List Item). Filled (positions (itemsFrom from cs ls₀ 0)) order₀ order k (positions xs)) same (g .placed)));
+      }
+
+pub ended : (from : ℕ) (cs ls₀ order₀ ls order : List ℕ) (i k : ℕ) → length cs ≤ length ls₀ → length cs ≤ length order₀ → length cs ≤ i → Gathering from cs ls₀ order₀ ls order i k → Gathered (items from cs ls₀) ls₀ order₀ k ls order
+ended from cs ls₀ order₀ ls order i k lr or h g =
+    let none = items-none from cs ls₀ i h (g .within) in
+    let start : from + 0 ≡ from = omega arith in
+    let ll : length ls ≡ length ls₀ = g .packed .long in
+    let lo : length order ≡ length order₀ = g .placed .long in
+    let p = filled-ended (levelsOf (itemsFrom from cs ls₀ 0)) ls₀ ls k (omega arith) (subst (λ (xs : List Item). Filled (levelsOf (itemsFrom from cs ls₀ 0)) ls₀ ls k (levelsOf xs)) none (g .packed)) in
+    let q = filled-ended (positions (itemsFrom from cs ls₀ 0)) order₀ order k (omega arith) (subst (λ (xs : List Item). Filled (positions (itemsFrom from cs ls₀ 0)) order₀ order k (positions xs)) none (g .placed)) in
+    subst (λ (n : ℕ). Gathered (items n cs ls₀) ls₀ order₀ k ls order) start (record {
+      count = p .1 ∙ length-map (itemsFrom from cs ls₀ 0) (λ (x : Item). x .level);
+      packed = p .0;
+      placed = q .0;
+    })

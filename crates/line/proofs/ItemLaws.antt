@@ -1,0 +1,110 @@
+-- The passes of the definition move items, each with its level; the code moves positions and reads levels by place.
+-- Both give the same: a pass leaves every test on a level not above its own as it was at each place.
+-- Assumes nothing.
+use Prim.Native.Nat.{ℕ, zero, suc, _≤_, max, min}
+use native.Mathlib.Omega.{arith}
+use mathlib.Core.Path.{_≡_, refl, sym, ap, _∙_}
+use mathlib.Core.Bool.{Bool, true, false}
+use mathlib.Core.List.{List, [], _∷_, _++_, map, append-assoc}
+use lib.Dec.{leb}
+use lib.ListN.{length}
+use borrow.Author.Tests.{leb-true, le-leb}
+use Rattle.rules.specs.Choice.{if_then_else_, isOdd}
+use Rattle.rules.specs.Line.{Item, pass, passes, highest, lowestOdd}
+use Rattle.line.specs.Gathered.{positions, levelsOf}
+use Rattle.line.specs.Passes.{atLevels, passBy, passesBy}
+
+-- at which of the levels a pass would turn
+abbrev tests : ℕ → List ℕ → List Bool
+tests t ls = map (leb t) ls
+
+positions-append : (xs ys : List Item) → positions (xs ++ ys) ≡ positions xs ++ positions ys
+positions-append [] ys = refl
+positions-append (x ∷ xs) ys = ap (λ (l : List ℕ). x .position ∷ l) (positions-append xs ys)
+
+tests-append : (t : ℕ) (xs ys : List Item) → tests t (levelsOf (xs ++ ys)) ≡ tests t (levelsOf xs) ++ tests t (levelsOf ys)
+tests-append t [] ys = refl
+tests-append t (x ∷ xs) ys = ap (λ (l : List Bool). leb t (x .level) ∷ l) (tests-append t xs ys)
+
+-- one step of a pass, on items and on positions
+step-if : (b : Bool) (m : ℕ) (x : Item) (stretch xs : List Item) (ls rest : List ℕ) → positions (pass m (x ∷ stretch) xs) ++ rest ≡ passBy m (x .position ∷ positions stretch) ls (positions xs ++ rest) → positions (pass m [] xs) ++ rest ≡ passBy m [] ls (positions xs ++ rest) → positions (if b then pass m (x ∷ stretch) xs else stretch ++ (x ∷ pass m [] xs)) ++ rest ≡ (if b then passBy m (x .position ∷ positions stretch) ls (positions xs ++ rest) else positions stretch ++ (x .position ∷ passBy m [] ls (positions xs ++ rest)))
+step-if true m x stretch xs ls rest on off = on
+step-if false m x stretch xs ls rest on off =
+    ap (λ (l : List ℕ). l ++ rest) (positions-append stretch (x ∷ pass m [] xs))
+    ∙ append-assoc (positions stretch) (x .position ∷ positions (pass m [] xs)) rest
+    ∙ ap (λ (l : List ℕ). positions stretch ++ (x .position ∷ l)) off
+
+-- a pass over levels that test as the items' own levels do
+pass-positions : (m : ℕ) (stretch xs : List Item) (ls rest : List ℕ) → tests m ls ≡ tests m (levelsOf xs) → positions (pass m stretch xs) ++ rest ≡ passBy m (positions stretch) ls (positions xs ++ rest)
+unfolding pass passBy
+pass-positions m stretch [] [] rest e = refl
+pass-positions m stretch [] (l ∷ ls) rest e = let z : _≡_ {A = ℕ} 0 1 = cc in absurd (omega arith)
+pass-positions m stretch (x ∷ xs) [] rest e = let z : _≡_ {A = ℕ} 0 1 = cc in absurd (omega arith)
+pass-positions m stretch (x ∷ xs) (l ∷ ls) rest e =
+    let here : leb m (x .level) ≡ leb m l = cc in
+    let there : tests m ls ≡ tests m (levelsOf xs) = cc in
+    step-if (leb m (x .level)) m x stretch xs ls rest (pass-positions m (x ∷ stretch) xs ls rest there) (pass-positions m [] xs ls rest there)
+    ∙ ap (λ (b : Bool). if b then passBy m (x .position ∷ positions stretch) ls (positions xs ++ rest) else positions stretch ++ (x .position ∷ passBy m [] ls (positions xs ++ rest))) here
+
+-- so many places that pass a test, ahead of others
+trues : ℕ → List Bool → List Bool
+trues zero bs = bs
+trues (suc n) bs = true ∷ trues n bs
+
+trues-next : (n : ℕ) (bs : List Bool) → true ∷ trues n bs ≡ trues n (true ∷ bs)
+unfolding trues
+trues-next zero bs = refl
+trues-next (suc n) bs = ap (λ (l : List Bool). true ∷ l) (trues-next n bs)
+
+trues-append : (n : ℕ) (bs : List Bool) → trues n [] ++ bs ≡ trues n bs
+unfolding trues
+trues-append zero bs = refl
+trues-append (suc n) bs = ap (λ (l : List Bool). true ∷ l) (trues-append n bs)
+
+-- a pass keeps every test on a level not above its own
+module _ (t m : ℕ) (h : t ≤ m) where
+  kept-if : (b : Bool) (x : Item) (stretch xs : List Item) → leb m (x .level) ≡ b → tests t (levelsOf stretch) ≡ trues (length stretch) [] → (leb t (x .level) ≡ true → tests t (levelsOf (pass m (x ∷ stretch) xs)) ≡ trues (suc (length stretch)) (tests t (levelsOf xs))) → tests t (levelsOf (pass m [] xs)) ≡ tests t (levelsOf xs) → tests t (levelsOf (if b then pass m (x ∷ stretch) xs else stretch ++ (x ∷ pass m [] xs))) ≡ trues (length stretch) (leb t (x .level) ∷ tests t (levelsOf xs))
+  unfolding trues
+  kept-if true x stretch xs e st on off =
+      let high : m ≤ x .level = leb-true m (x .level) e in
+      let low : leb t (x .level) ≡ true = le-leb t (x .level) (omega arith) in
+      on low ∙ trues-next (length stretch) (tests t (levelsOf xs)) ∙ ap (λ (b : Bool). trues (length stretch) (b ∷ tests t (levelsOf xs))) (sym low)
+  kept-if false x stretch xs e st on off =
+      tests-append t stretch (x ∷ pass m [] xs) ∙ (λ j. st j ++ (leb t (x .level) ∷ off j)) ∙ trues-append (length stretch) (leb t (x .level) ∷ tests t (levelsOf xs))
+
+  pass-keeps : (stretch xs : List Item) → tests t (levelsOf stretch) ≡ trues (length stretch) [] → tests t (levelsOf (pass m stretch xs)) ≡ trues (length stretch) (tests t (levelsOf xs))
+  unfolding pass trues
+  pass-keeps stretch [] st = st
+  pass-keeps stretch (x ∷ xs) st =
+      kept-if (leb m (x .level)) x stretch xs refl st
+      (λ low. pass-keeps (x ∷ stretch) xs (λ j. low j ∷ st j))
+      (pass-keeps [] xs refl)
+
+passes-if : (b : Bool) (level lowest : ℕ) (xs : List Item) (ls rest : List ℕ) → positions (passes level lowest (pass (suc level) [] xs)) ++ rest ≡ passesBy level lowest ls (passBy (suc level) [] ls (positions xs ++ rest)) → positions (if b then passes level lowest (pass (suc level) [] xs) else xs) ++ rest ≡ (if b then passesBy level lowest ls (passBy (suc level) [] ls (positions xs ++ rest)) else positions xs ++ rest)
+passes-if true level lowest xs ls rest on = on
+passes-if false level lowest xs ls rest on = refl
+
+-- all passes, over levels that test alike
+alike-passes : (level lowest : ℕ) (xs : List Item) (ls rest : List ℕ) → ((t : ℕ) → t ≤ level → tests t ls ≡ tests t (levelsOf xs)) → positions (passes level lowest xs) ++ rest ≡ passesBy level lowest ls (positions xs ++ rest)
+unfolding passes passesBy trues
+alike-passes zero lowest xs ls rest alike = refl
+alike-passes (suc level) lowest xs ls rest alike =
+    passes-if (leb lowest (suc level)) level lowest xs ls rest
+    (alike-passes level lowest (pass (suc level) [] xs) ls rest
+    (λ t h. alike t (omega arith) ∙ sym (pass-keeps t (suc level) (omega arith) [] xs refl))
+    ∙ ap (passesBy level lowest ls) (pass-positions (suc level) [] xs ls rest (alike (suc level) (omega arith))))
+
+-- the passes of the definition, made on positions with the levels as they were in memory order
+pub passes-positions : (level lowest : ℕ) (xs : List Item) (rest : List ℕ) → passesBy level lowest (levelsOf xs) (positions xs ++ rest) ≡ positions (passes level lowest xs) ++ rest
+passes-positions level lowest xs rest = sym (alike-passes level lowest xs (levelsOf xs) rest (λ t h. refl))
+
+-- the highest and the lowest odd level look at levels alone
+pub highest-levels : (xs : List Item) → highest (atLevels (levelsOf xs)) ≡ highest xs
+unfolding highest
+highest-levels [] = refl
+highest-levels (x ∷ xs) = ap (max (x .level)) (highest-levels xs)
+
+pub lowestOdd-levels : (none : ℕ) (xs : List Item) → lowestOdd none (atLevels (levelsOf xs)) ≡ lowestOdd none xs
+unfolding lowestOdd
+lowestOdd-levels none [] = refl
+lowestOdd-levels none (x ∷ xs) = ap (λ (n : ℕ). if isOdd (x .level) then min (x .level) n else n) (lowestOdd-levels none xs)

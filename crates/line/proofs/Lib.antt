@@ -1,0 +1,10 @@
+-- Laws that the proofs of this crate cite.
+pub mod Filling
+pub mod ResetLaws
+pub mod GatherLaws
+pub mod ScanLaws
+pub mod TurnLaws
+pub mod PassLaws
+pub mod ItemLaws
+pub mod LineLaws
+pub mod Mirror

@@ -1,0 +1,246 @@
+-- The order of one line from its reset, its kept positions and the passes; and of all lines, one after the other.
+-- Assumes nothing.
+use Prim.Native.Nat.{ℕ, zero, suc, _+_, _-_, _≤_, _<_}
+use native.Mathlib.Nat.{zero-add}
+use native.Mathlib.Numerals.{add-one}
+use native.Mathlib.Omega.{arith}
+use mathlib.Core.Path.{_≡_, refl, sym, ap, subst, _∙_}
+use mathlib.Core.Bool.{Bool, true, false}
+use mathlib.Core.List.{List, [], _∷_, _++_, append-assoc, append-nil}
+use lib.Dec.{leb, ltb}
+use lib.ListN.{length, getD, take, drop, length-append, length-drop, length-map, drop-of-length-le}
+use lib.Seq.{take-at, drop-at, drop-drop, length-take-le, take-all, drop-length}
+use borrow.Rule.Slice.PartMut.{putMid, post-is}
+use borrow.Author.Tests.{ltb-true, eqb-true}
+use Rattle.rules.specs.Choice.{if_then_else_}
+use Rattle.rules.specs.Classes.{isRemoved}
+use Rattle.rules.specs.Jobs.{over}
+use Rattle.rules.specs.Line.{Item, L1, L2, items, pass, passes, highest, lowestOdd, part, lineLevels, lineOrder, allOrders}
+use Rattle.rules.specs.Refusals.{endsRise}
+use Rattle.rules.proofs.Lists.{drop-next}
+use Rattle.line.specs.Gathered.{Gathered, positions, levelsOf}
+use Rattle.line.specs.Ordered.{Ordered}
+use Rattle.line.specs.Passes.{atLevels, passesBy}
+use Rattle.line.proofs.Filling.{Filled, filled-begun, filled-part, filled-ended}
+use Rattle.line.proofs.ItemLaws.{passes-positions, highest-levels, lowestOdd-levels}
+use Rattle.line.proofs.ResetLaws.{length-L1}
+
+-- how many items there are
+
+items-if : (b : Bool) (x : Item) (xs : List Item) (n : ℕ) → length xs ≤ n → length (if b then xs else x ∷ xs) ≤ suc n
+items-if true x xs n h = omega arith
+items-if false x xs n h = omega arith
+
+pub length-items : (at : ℕ) (cs ls : List ℕ) → length (items at cs ls) ≤ length cs
+unfolding items
+length-items at [] ls = omega arith
+length-items at (c ∷ cs) [] = omega arith
+length-items at (c ∷ cs) (l ∷ ls) =
+    items-if (isRemoved c) (record { position = at; level = l }) (items (suc at) cs ls) (length cs) (length-items (suc at) cs ls)
+
+pass-if : (b : Bool) (m : ℕ) (x : Item) (stretch xs : List Item) → length (pass m (x ∷ stretch) xs) ≡ suc (length stretch) + length xs → length (pass m [] xs) ≡ 0 + length xs → length (if b then pass m (x ∷ stretch) xs else stretch ++ (x ∷ pass m [] xs)) ≡ length stretch + suc (length xs)
+pass-if true m x stretch xs on off = omega arith
+pass-if false m x stretch xs on off = length-append stretch (x ∷ pass m [] xs) ∙ ap (λ (n : ℕ). length stretch + suc n) (off ∙ zero-add (length xs))
+
+pub length-pass : (m : ℕ) (stretch xs : List Item) → length (pass m stretch xs) ≡ length stretch + length xs
+unfolding pass
+length-pass m stretch [] = omega arith
+length-pass m stretch (x ∷ xs) = pass-if (leb m (x .level)) m x stretch xs (length-pass m (x ∷ stretch) xs) (length-pass m [] xs)
+
+passes-if : (b : Bool) (xs ys : List Item) (n : ℕ) → length xs ≡ n → length ys ≡ n → length (if b then xs else ys) ≡ n
+passes-if true xs ys n on off = on
+passes-if false xs ys n on off = off
+
+pub length-passes : (level lowest : ℕ) (xs : List Item) → length (passes level lowest xs) ≡ length xs
+unfolding passes
+length-passes zero lowest xs = refl
+length-passes (suc level) lowest xs =
+    passes-if (leb lowest (suc level)) (passes level lowest (pass (suc level) [] xs)) xs (length xs)
+    (length-passes level lowest (pass (suc level) [] xs) ∙ length-pass (suc level) [] xs ∙ zero-add (length xs)) refl
+
+pub length-L2 : (xs : List Item) → length (L2 xs) ≡ length xs
+unfolding L2
+length-L2 xs = length-passes (highest xs) (lowestOdd (suc (highest xs)) xs) xs
+
+pub length-positions : (xs : List Item) → length (positions xs) ≡ length xs
+length-positions xs = length-map xs (λ (x : Item). x .position)
+
+-- levels past the line's classes make no item
+items-same : (b : Bool) (x : Item) (xs ys : List Item) → xs ≡ ys → (if b then xs else x ∷ xs) ≡ (if b then ys else x ∷ ys)
+items-same b x xs ys e = ap (λ (l : List Item). if b then l else x ∷ l) e
+
+pub items-over : (at : ℕ) (cs ls more : List ℕ) → length ls ≡ length cs → items at cs (ls ++ more) ≡ items at cs ls
+unfolding items
+items-over at [] ls more h = refl
+items-over at (c ∷ cs) [] more h = absurd (omega arith)
+items-over at (c ∷ cs) (l ∷ ls) more h =
+    items-same (isRemoved c) (record { position = at; level = l }) (items (suc at) cs (ls ++ more)) (items (suc at) cs ls) (items-over (suc at) cs ls more (omega arith))
+
+-- the items of a line with its own classes and levels
+abbrev pub lineItems : ℕ → ℕ → List ℕ → List ℕ → List Item
+lineItems base from cs ls = items from cs (L1 base cs ls)
+
+module _ (base from : ℕ) (cs ls work work₁ work₂ order order₂ : List ℕ) (r : ℕ) (same : length ls ≡ length cs) (reset : work₁ ≡ over (L1 base cs ls) work) (gathered : Gathered (items from cs work₁) work₁ order r work₂ order₂) where
+  line-items : items from cs work₁ ≡ lineItems base from cs ls
+  line-items = ap (items from cs) reset ∙ items-over from cs (L1 base cs ls) (drop (length (L1 base cs ls)) work) (length-L1 base cs ls same)
+
+  line-gathered : Gathered (lineItems base from cs ls) work₁ order r work₂ order₂
+  line-gathered = subst (λ (xs : List Item). Gathered xs work₁ order r work₂ order₂) line-items gathered
+
+  pub count-within : r ≤ length cs
+  count-within = let n : length (items from cs work₁) ≤ length cs = length-items from cs work₁ in omega (arith, gathered .count)
+
+  pub work-left : work₂ ≡ over (levelsOf (lineItems base from cs ls)) (over (L1 base cs ls) work)
+  work-left = line-gathered .packed ∙ ap (over (levelsOf (lineItems base from cs ls))) reset
+
+  levels-length : length (levelsOf (lineItems base from cs ls)) ≡ r
+  levels-length = length-map (lineItems base from cs ls) (λ (x : Item). x .level) ∙ sym (line-gathered .count)
+
+  line-levels : take r work₂ ≡ levelsOf (lineItems base from cs ls)
+  line-levels =
+      ap (take r) (line-gathered .packed)
+      ∙ take-at (levelsOf (lineItems base from cs ls)) (drop (length (levelsOf (lineItems base from cs ls))) work₁) r levels-length
+
+  -- the highest level, the lowest odd one and the passes between them, over the levels of the kept positions
+  pub line-ordered : (top lowest : ℕ) (order₃ : List ℕ) → top ≡ highest (atLevels (take r work₂)) → lowest ≡ lowestOdd (top + 1) (atLevels (take r work₂)) → order₃ ≡ passesBy top lowest (take r work₂) order₂ → Ordered (positions (L2 (lineItems base from cs ls))) order r order₃
+  unfolding L2
+  line-ordered top lowest order₃ et el eo =
+      let xs : List Item = lineItems base from cs ls in
+      let top-is : top ≡ highest xs = et ∙ ap (λ (l : List ℕ). highest (atLevels l)) line-levels ∙ highest-levels xs in
+      let lowest-is : lowest ≡ lowestOdd (suc (highest xs)) xs =
+      el ∙ (λ j. lowestOdd ((add-one top ∙ ap suc top-is) j) (atLevels (line-levels j))) ∙ lowestOdd-levels (suc (highest xs)) xs in
+      let long : length (positions (L2 xs)) ≡ length (positions xs) = length-positions (L2 xs) ∙ length-L2 xs ∙ sym (length-positions xs) in
+      record {
+        count = line-gathered .count ∙ sym (length-positions (L2 xs) ∙ length-L2 xs);
+        placed = eo ∙ (λ j. passesBy (top-is j) (lowest-is j) (line-levels j) (line-gathered .placed j))
+            ∙ passes-positions (highest xs) (lowestOdd (suc (highest xs)) xs) xs (drop (length (positions xs)) order)
+            ∙ ap (λ (n : ℕ). positions (L2 xs) ++ drop n order) (sym long);
+      }
+
+-- a line of a paragraph is the line with its own parts of the classes and levels
+pub of-parts : (base from to : ℕ) (cs ls : List ℕ) → positions (L2 (lineItems base from (take (to - from) (drop from cs)) (take (to - from) (drop from ls)))) ≡ lineOrder base cs ls from to
+unfolding lineOrder lineLevels part
+of-parts base from to cs ls = refl
+
+pub ordered-of-parts : (base from to : ℕ) (cs ls entry : List ℕ) (r : ℕ) (exit : List ℕ) → Ordered (positions (L2 (lineItems base from (take (to - from) (drop from cs)) (take (to - from) (drop from ls))))) entry r exit → Ordered (lineOrder base cs ls from to) entry r exit
+ordered-of-parts base from to cs ls entry r exit o = subst (λ (l : List ℕ). Ordered l entry r exit) (of-parts base from to cs ls) o
+
+pub length-part : (from to : ℕ) (cs : List ℕ) → to ≤ length cs → length (take (to - from) (drop from cs)) ≡ to - from
+length-part from to cs h = length-take-le (to - from) (drop from cs) (simp length-drop (omega arith))
+
+pub length-lineOrder : (base : ℕ) (cs ls : List ℕ) (from to : ℕ) → to ≤ length cs → length (lineOrder base cs ls from to) ≤ to - from
+length-lineOrder base cs ls from to h =
+    let cs′ : List ℕ = take (to - from) (drop from cs) in
+    let xs : List Item = lineItems base from cs′ (take (to - from) (drop from ls)) in
+    let n : length xs ≤ length cs′ = length-items from cs′ (L1 base cs′ (take (to - from) (drop from ls))) in
+    let m : length (positions (L2 xs)) ≡ length xs = length-positions (L2 xs) ∙ length-L2 xs in
+    let k : length cs′ ≡ to - from = length-part from to cs h in
+    let l : length (lineOrder base cs ls from to) ≡ length (positions (L2 xs)) = ap length (sym (of-parts base from to cs ls)) in
+    omega arith
+
+-- all lines: the next end lies past the last one and within the paragraph
+module _ (from to : ℕ) (ends : List ℕ) (last : ℕ) where
+  rises-if : (b : Bool) → ltb from to ≡ b → (if b then endsRise to ends last else false) ≡ true → (from < to) × (endsRise to ends last ≡ true)
+  rises-if true e r = (ltb-true from to e, r)
+  rises-if false e r = let z : _≡_ {A = ℕ} 0 1 = cc in absurd (omega arith)
+
+  rises-on : endsRise from (to ∷ ends) last ≡ true → (from < to) × (endsRise to ends last ≡ true)
+  unfolding endsRise
+  rises-on r = rises-if (ltb from to) refl r
+
+rises-within : (from : ℕ) (ends : List ℕ) (last : ℕ) → endsRise from ends last ≡ true → from ≤ last
+unfolding endsRise
+rises-within from [] last r = let e : from ≡ last = eqb-true from last r in omega arith
+rises-within from (to ∷ ends) last r =
+    let on = rises-on from to ends last r in
+    let h : to ≤ last = rises-within to ends last (on .1) in
+    omega arith
+
+-- the lines before number i are ordered, `from` being where line i begins
+pub record Lines (base : ℕ) (cs ls ends order₀ order : List ℕ) (from count i : ℕ) : Type 0 where
+  pub within : i ≤ length ends
+  pub behind : count ≤ from
+  pub inside : from ≤ length cs
+  pub rises : endsRise from (drop i ends) (length cs) ≡ true
+  pub filled : Filled (allOrders base cs ls 0 ends) order₀ order count (allOrders base cs ls from (drop i ends))
+
+pub lines-begun : (base : ℕ) (cs ls ends order : List ℕ) → endsRise 0 ends (length cs) ≡ true → Lines base cs ls ends order order 0 0 0
+lines-begun base cs ls ends order r = record {
+  within = omega arith;
+  behind = omega arith;
+  inside = omega arith;
+  rises = r;
+  filled = filled-begun (allOrders base cs ls 0 ends) order;
+}
+
+module _ (base : ℕ) (cs ls ends order₀ order : List ℕ) (from count i : ℕ) (l : Lines base cs ls ends order₀ order from count i) where
+  module _ (h : i < length ends) (to : ℕ) (end : to ≡ getD ends i 0) where
+    ends-next : drop i ends ≡ to ∷ drop (i + 1) ends
+    ends-next = drop-next ends i h ∙ ap (λ (n : ℕ). n ∷ drop (i + 1) ends) (sym end)
+
+    next-rises : (from < to) × (endsRise to (drop (i + 1) ends) (length cs) ≡ true)
+    next-rises = rises-on from to (drop (i + 1) ends) (length cs) (subst (λ (es : List ℕ). endsRise from es (length cs) ≡ true) ends-next (l .rises))
+
+    -- the next line, where it begins and ends
+    pub next-line : (from < to) × (to ≤ length cs)
+    next-line = (next-rises .0, rises-within to (drop (i + 1) ends) (length cs) (next-rises .1))
+
+    orders-next : allOrders base cs ls from (drop i ends) ≡ lineOrder base cs ls from to ++ allOrders base cs ls to (drop (i + 1) ends)
+    unfolding allOrders
+    orders-next = ap (allOrders base cs ls from) ends-next
+
+    -- the call is lent the places from count on
+    lent-is : take (length order - count) (drop count order) ≡ drop count order
+    lent-is = take-all (length order - count) (drop count order) (simp length-drop (omega arith))
+
+    pub lent-room : length cs ≤ length order₀ → to - from ≤ length (take (length order - count) (drop count order))
+    lent-room room =
+        let n : length (take (length order - count) (drop count order)) ≡ length order - count = ap length lent-is ∙ length-drop count order in
+        let m : length order ≡ length order₀ = l .filled .long in
+        let b : count ≤ from = l .behind in
+        let w = next-line in
+        omega arith
+
+    -- and so many of them are written, which leaves room for the lines to come
+    pub count-next : (r : ℕ) → r ≡ length (lineOrder base cs ls from to) → count + r ≤ to
+    count-next r n =
+        let w = next-line in
+        let b : count ≤ from = l .behind in
+        let long : length (lineOrder base cs ls from to) ≤ to - from = length-lineOrder base cs ls from to (w .1) in
+        omega arith
+
+    pub lines-next : (r : ℕ) (part′ order′ : List ℕ) → length cs ≤ length order₀ → Ordered (lineOrder base cs ls from to) (take (length order - count) (drop count order)) r part′ → order′ ≡ putMid count (length order - count) order part′ → Lines base cs ls ends order₀ order′ to (count + r) (i + 1)
+    lines-next r part′ order′ room o e =
+        let w = next-line in
+        let m : length order ≡ length order₀ = l .filled .long in
+        let n : r ≡ length (lineOrder base cs ls from to) = o .count in
+        let within : count + r ≤ to = count-next r n in
+        let line : List ℕ = lineOrder base cs ls from to in
+        let part-is : part′ ≡ line ++ drop (count + r) order =
+        o .placed ∙ ap (λ (x : List ℕ). line ++ drop (length line) x) lent-is ∙ ap (λ (x : List ℕ). line ++ x) (drop-drop (length line) count order)
+        ∙ ap (λ (x : ℕ). line ++ drop (count + x) order) (sym n) in
+        let order-is : order′ ≡ (take count order ++ line) ++ drop (count + r) order =
+        e ∙ ap (λ (x : List ℕ). take count order ++ (part′ ++ x)) (post-is count (length order) order (omega (arith, l .behind)) ∙ drop-length order)
+        ∙ ap (λ (x : List ℕ). take count order ++ x) (append-nil part′ ∙ part-is)
+        ∙ sym (append-assoc (take count order) line (drop (count + r) order)) in
+        let front : length (take count order ++ line) ≡ count + r =
+        length-append (take count order) line ∙ (λ j. length-take-le count order (omega (arith, l .behind)) j + sym n j) in
+        record {
+          within = omega arith;
+          behind = within;
+          inside = w .1;
+          rises = next-rises .1;
+          filled = filled-part (allOrders base cs ls 0 ends) order₀ order count order′ line (allOrders base cs ls to (drop (i + 1) ends)) (count + r)
+              (ap length order-is ∙ length-append (take count order ++ line) (drop (count + r) order) ∙ (λ j. front j + length-drop (count + r) order j) ∙ omega arith)
+              (ap (take (count + r)) order-is ∙ take-at (take count order ++ line) (drop (count + r) order) (count + r) front)
+              (ap (drop (count + r)) order-is ∙ drop-at (take count order ++ line) (drop (count + r) order) (count + r) front)
+              (omega arith) (subst (Filled (allOrders base cs ls 0 ends) order₀ order count) orders-next (l .filled));
+        }
+
+  pub lines-ended : length cs ≤ length order₀ → length ends ≤ i → Ordered (allOrders base cs ls 0 ends) order₀ count order
+  unfolding allOrders
+  lines-ended room h =
+      let m : length order ≡ length order₀ = l .filled .long in
+      let d = filled-ended (allOrders base cs ls 0 ends) order₀ order count (omega (arith, l .behind, l .inside))
+      (subst (λ (es : List ℕ). Filled (allOrders base cs ls 0 ends) order₀ order count (allOrders base cs ls from es)) (drop-of-length-le ends h) (l .filled)) in
+      record { count = d .1; placed = d .0 }

@@ -1,0 +1,21 @@
+-- `line::end_at` meets its contract: an end fits a position.
+-- Assumes nothing.
+use native.Mathlib.Omega.{arith}
+use borrow.Author.Needs.{needs}
+use Rattle.line.proofs.end_at.Statement.{statement}
+use Rattle.line.proofs.end_at.Tie as tie
+
+mul-result : tie.Need-mul-result
+mul-result c = search needs
+
+shared-slice-read-result : tie.Need-shared-slice-read-result
+shared-slice-read-result c = search needs
+
+cast-result : tie.Need-cast-result
+cast-result c = omega (arith, c .shared-slice-known .given (c .before .args .i))
+
+returns : tie.Need-returns
+returns c = search needs
+
+pub end-at-spec : {M : Type 1} → statement M
+end-at-spec = tie.close (tie.spec mul-result shared-slice-read-result cast-result returns)

@@ -1,0 +1,84 @@
+-- `line::order_with` meets its contract: what the reset, the gathering, the two bounds and the passes leave in turn is the order of the line.
+-- Assumes nothing.
+use Prim.Native.Nat.{_≤_}
+use mathlib.Core.Path.{sym}
+use lib.ListN.{length}
+use lib.Seq.{length-take-le}
+use Rattle.line.proofs.LineLaws.{count-within, line-ordered, work-left}
+use borrow.Author.Needs.{needs}
+use Rattle.line.proofs.order_with.Statement.{statement}
+use Rattle.line.proofs.order_with.Tie as tie
+
+reset-requires : tie.Need-reset-requires
+reset-requires c κs = search needs
+
+gather-requires : tie.Need-gather-requires
+gather-requires c κs = search needs
+
+-- how many are kept is within the line, and so within the work buffer
+count-kept : (c : tie.After-gather) → c .gather .result ≤ length (c .before .before .before .before .before .before .before .before .before .before .before .args .classes .now)
+count-kept c =
+    let r = c .before .before .before .before .before in
+    let start = r .before .before .before .before .before .before in
+    let args = start .args in
+    count-within (args .base) (args .from .0) (args .classes .now) (args .levels .now) (args .work .now) _ _ _ _ _ (start .pre .0) (r .reset .ensures) (c .gather .ensures)
+
+kept-within : (c : tie.After-gather) → c .gather .result ≤ length (c .gather .last .1 .1 .0)
+kept-within c = let n = count-kept c in search needs
+
+slice-reshare-prefix-kept : tie.Need-slice-reshare-prefix-kept
+slice-reshare-prefix-kept c = kept-within (c .before .before .before .before)
+
+slice-aggregate-kept : tie.Need-slice-aggregate-kept
+slice-aggregate-kept c = sym (length-take-le _ _ (kept-within (c .before .before .before .before .before)))
+
+highest-level-requires : tie.Need-highest-level-requires
+highest-level-requires c κs = search needs
+
+add-lowest-odd-level : tie.Need-add-lowest-odd-level
+add-lowest-odd-level c = search needs
+
+lowest-odd-level-requires : tie.Need-lowest-odd-level-requires
+lowest-odd-level-requires c κs = search needs
+
+passes-requires : tie.Need-passes-requires
+passes-requires c κs =
+    let gathered = c .before .before .before .before .before .before .before .before in
+    let n = count-kept gathered in
+    let e = length-take-le (gathered .gather .result) (gathered .gather .last .1 .1 .0) (kept-within gathered) in
+    search needs
+
+same-length : tie.Need-same-length
+same-length c = search needs
+
+same-length-2 : tie.Need-same-length-2
+same-length-2 c = search needs
+
+returns : tie.Need-returns
+returns c =
+    let passed = c .before .before in
+    let highest = passed .before .before .before in
+    let g = highest .before .before .before .before .before .before in
+    let r = g .before .before .before .before .before in
+    let start = r .before .before .before .before .before .before in
+    let args = start .args in (
+      line-ordered (args .base) (args .from .0) (args .classes .now) (args .levels .now) (args .work .now) _ _ _ _ _ (start .pre .0) (r .reset .ensures) (g .gather .ensures)
+          _ _ _ (highest .highest-level .ensures .0) (passed .before .before .lowest-odd-level .ensures) (passed .passes .ensures),
+      work-left (args .base) (args .from .0) (args .classes .now) (args .levels .now) (args .work .now) _ _ _ _ _ (start .pre .0) (r .reset .ensures) (g .gather .ensures),
+    )
+
+pub order-with-spec : {M : Type 1} → statement M
+order-with-spec =
+    tie.close
+    (tie.spec
+    reset-requires
+    gather-requires
+    slice-reshare-prefix-kept
+    slice-aggregate-kept
+    highest-level-requires
+    add-lowest-odd-level
+    lowest-odd-level-requires
+    passes-requires
+    same-length
+    same-length-2
+    returns)

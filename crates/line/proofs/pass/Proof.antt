@@ -1,0 +1,70 @@
+-- `line::pass` meets its contract. The invariant: the places before i are as the pass leaves them, and those from i on as they were. The measure is what is left.
+-- Assumes nothing.
+use Prim.Native.Nat.{_-_}
+use lib.ListN.{length}
+use Rattle.line.proofs.Filling.{Filled, filled-begun}
+use Rattle.line.proofs.PassLaws.{passFrom, stretch-within, next, ended}
+use borrow.Author.Needs.{needs}
+use Rattle.line.proofs.pass.Statement.{statement}
+use Rattle.line.proofs.pass.Tie as tie
+
+abbrev Inv-loop : tie.InvT-loop
+Inv-loop level levels order₀ i₀ order i = Filled (passFrom level levels order₀ 0) order₀ order i (passFrom level levels order₀ i)
+
+abbrev μ-loop : tie.MeasureT-loop
+μ-loop level levels order₀ i₀ order i = length levels - i
+
+loop-holds : tie.Need-loop-holds Inv-loop μ-loop
+loop-holds c = filled-begun _ _
+
+stretch-end-requires : tie.Need-stretch-end-requires Inv-loop μ-loop
+stretch-end-requires c κs = search needs
+
+reverse-requires : tie.Need-reverse-requires Inv-loop μ-loop
+reverse-requires c κs =
+    let at-loop = c .before .before .before in
+    let args = at-loop .before .before .before .args in
+    let w = stretch-within (args .level) (args .levels .now) (at-loop .loop .i) _ (search needs) (c .before .stretch-end .ensures) in
+    (w .0, search needs)
+
+add-i : tie.Need-add-i Inv-loop μ-loop
+add-i c =
+    let ended = c .before .before .before .before .before in
+    let at-loop = ended .before .before in
+    let args = at-loop .before .before .before .args in
+    let w = stretch-within (args .level) (args .levels .now) (at-loop .loop .i) _ (search needs) (ended .stretch-end .ensures) in
+    search needs
+
+loop-less : tie.Need-loop-less Inv-loop μ-loop
+loop-less c = search needs
+
+loop-again : tie.Need-loop-again Inv-loop μ-loop
+loop-again c =
+    let turned = c .before .before .before in
+    let ended = turned .before .before in
+    let at-loop = ended .before .before in
+    let args = at-loop .before .before .before .args in
+    next (args .level) (args .levels .now) (args .order .now) (search needs) _ _ (at-loop .loop .i) _ (ended .before .loop-test .taken) (ended .stretch-end .ensures) (turned .reverse .ensures) (at-loop .loop .inv)
+
+same-length : tie.Need-same-length Inv-loop μ-loop
+same-length c = search needs
+
+returns : tie.Need-returns Inv-loop μ-loop
+returns c =
+    let args = c .before .before .before .before .args in
+    ended (args .level) (args .levels .now) (args .order .now) (search needs) _ _ (c .loop-test .left) (c .before .loop .inv)
+
+pub pass-spec : {M : Type 1} → statement M
+pass-spec =
+    tie.close
+    (tie.spec
+    Inv-loop
+    μ-loop
+    loop-holds
+    stretch-end-requires
+    reverse-requires
+    add-i
+    loop-less
+    loop-again
+    same-length
+    returns)

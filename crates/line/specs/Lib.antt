@@ -1,0 +1,4 @@
+-- What the contracts of this crate say of results and lent memory.
+pub mod Gathered
+pub mod Passes
+pub mod Ordered

@@ -1,0 +1,37 @@
+-- The passes of L2 as they are made: what stands in an order is moved, and the levels are read by place, as they were before any pass.
+use Prim.Native.Nat.{ℕ, zero, suc, _+_, _≤_, _<_}
+use mathlib.Core.Path.{_≡_}
+use mathlib.Core.List.{List, [], _∷_, _++_, map}
+use lib.Dec.{leb}
+use lib.ListN.{length, getD}
+use Rattle.rules.specs.Choice.{if_then_else_}
+use Rattle.rules.specs.Line.{Item}
+
+-- items at the given levels, whatever their positions
+abbrev pub atLevels : List ℕ → List Item
+atLevels ls = map (λ (l : ℕ). record { position = 0; level = l }) ls
+
+-- how many places at the front are at that level or above
+unfoldable pub span : ℕ → List ℕ → ℕ
+span level [] = 0
+span level (l ∷ ls) = if leb level l then suc (span level ls) else 0
+
+-- one pass over the places with the given levels; all places past them stay. The stretch under way is held last first
+unfoldable pub passBy : ℕ → List ℕ → List ℕ → List ℕ → List ℕ
+passBy level stretch [] ps = stretch ++ ps
+passBy level stretch (l ∷ ls) [] = stretch
+passBy level stretch (l ∷ ls) (p ∷ ps) =
+    if leb level l then passBy level (p ∷ stretch) ls ps else stretch ++ (p ∷ passBy level [] ls ps)
+
+-- passes from one level down to another, always over the same levels
+unfoldable pub passesBy : ℕ → ℕ → List ℕ → List ℕ → List ℕ
+passesBy zero lowest ls ps = ps
+passesBy (suc level) lowest ls ps =
+    if leb lowest (suc level) then passesBy level lowest ls (passBy (suc level) [] ls ps) else ps
+
+-- the places from one up to, not including, another are turned round, and all others are as they were
+pub record Turned (from to : ℕ) (xs ys : List ℕ) : Type 0 where
+  pub long : length ys ≡ length xs
+  pub ahead : (p : ℕ) → p < from → getD ys p 0 ≡ getD xs p 0
+  pub inside : (p q : ℕ) → from ≤ p → from ≤ q → suc (p + q) ≡ from + to → getD ys p 0 ≡ getD xs q 0
+  pub past : (p : ℕ) → to ≤ p → getD ys p 0 ≡ getD xs p 0

@@ -1,0 +1,367 @@
+// The order of one line and of all lines: the line's own reset (L1), then the passes of reversal (L2).
+// A position in memory order and a place on the display are counted apart, each by its own type, and
+// every index goes through one of them.
+ghost use mathlib.Core.Path.{_≡_};
+ghost use mathlib.Core.Bool.{true, _||_, _&&_};
+ghost use Prim.Native.Nat.{_+_, _-_, _≤_, _<_, max, min};
+ghost use mathlib.Core.List.{[]};
+ghost use lib.ListN.{length, getD, set, drop};
+ghost use Rattle.rules.specs.Choice.{if_then_else_, isOdd};
+ghost use Rattle.rules.specs.Classes.{isRemoved, isSeparator, isBlank};
+ghost use Rattle.rules.specs.Jobs.{over};
+ghost use Rattle.rules.specs.Line.{L1, L2, items, highest, lowestOdd, lineOrder, allOrders};
+ghost use Rattle.rules.specs.Refusals.{endsRise};
+ghost use Rattle.line.specs.Gathered.{Gathered, positions, levelsOf};
+ghost use Rattle.line.specs.Ordered.{Ordered};
+ghost use Rattle.line.specs.Passes.{atLevels, span, passBy, passesBy, Turned};
+
+// A position of the classes and levels, in memory order.
+pub struct Position(pub usize);
+
+// A place of the order, from left to right.
+pub struct Place(pub usize);
+
+fn class_at(classes: &[u8], at: Position) -> u8
+    requires { ⌜ at .0 < length (now classes) ⌝ }
+    ensures { λ r. ⌜ r ≡ getD (now (classes .entry)) (at .0) 0 ⌝ }
+{
+    let i = at.0;
+    classes[i]
+}
+
+fn level_at(levels: &[u8], at: Position) -> u8
+    requires { ⌜ at .0 < length (now levels) ⌝ }
+    ensures { λ r. ⌜ r ≡ getD (now (levels .entry)) (at .0) 0 ⌝ }
+{
+    let i = at.0;
+    levels[i]
+}
+
+fn put_level(levels: &mut [u8], at: Position, level: u8)
+    requires { ⌜ at .0 < length (now levels) ⌝ }
+    ensures { λ r. ⌜ now (levels .exit) ≡ set (now (levels .entry)) (at .0) level ⌝ }
+{
+    let i = at.0;
+    levels[i] = level;
+}
+
+// The level of one position after the reset, given whether only blanks stand between it and a separator or the line's end.
+fn reset_level(class: u8, level: u8, base: u8, ahead: bool) -> u8
+    ensures { λ r. ⌜ r ≡ (if isSeparator class || (isBlank class && ahead) then base else level) ⌝ }
+{
+    if classes::is_separator(class) {
+        return base;
+    }
+    if classes::is_blank(class) {
+        if ahead {
+            return base;
+        }
+        return level;
+    }
+    level
+}
+
+// What the position before this one has ahead of it.
+fn blank_before(class: u8, ahead: bool) -> bool
+    ensures { λ r. ⌜ r ≡ (if isRemoved class || isBlank class then ahead else isSeparator class) ⌝ }
+{
+    if classes::is_removed(class) {
+        return ahead;
+    }
+    if classes::is_blank(class) {
+        return ahead;
+    }
+    classes::is_separator(class)
+}
+
+// From the line's end to its start, so that each position is read once.
+pub(crate) fn reset(classes: &[u8], levels: &[u8], base: u8, out: &mut [u8])
+    requires { ⌜ length (now levels) ≡ length (now classes) ⌝ }
+    requires { ⌜ length (now classes) ≤ length (now out) ⌝ }
+    ensures { λ r. ⌜ now (out .exit) ≡ over (L1 base (now (classes .entry)) (now (levels .entry))) (now (out .entry)) ⌝ }
+{
+    let mut i = classes.len();
+    let mut ahead = true;
+    while 0 < i {
+        i -= 1;
+        let class = class_at(classes, Position(i));
+        let level = level_at(levels, Position(i));
+        put_level(out, Position(i), reset_level(class, level, base, ahead));
+        ahead = blank_before(class, ahead);
+    }
+}
+
+// The level of what stood at a place before any pass.
+fn level_of(levels: &[u8], at: Place) -> u8
+    requires { ⌜ at .0 < length (now levels) ⌝ }
+    ensures { λ r. ⌜ r ≡ getD (now (levels .entry)) (at .0) 0 ⌝ }
+{
+    let i = at.0;
+    levels[i]
+}
+
+fn pack(levels: &mut [u8], at: Place, level: u8)
+    requires { ⌜ at .0 < length (now levels) ⌝ }
+    ensures { λ r. ⌜ now (levels .exit) ≡ set (now (levels .entry)) (at .0) level ⌝ }
+{
+    let i = at.0;
+    levels[i] = level;
+}
+
+fn put(order: &mut [u16], at: Place, what: Position)
+    requires { ⌜ at .0 < length (now order) ⌝ }
+    requires { ⌜ what .0 < 65536 ⌝ }
+    ensures { λ r. ⌜ now (order .exit) ≡ set (now (order .entry)) (at .0) (what .0) ⌝ }
+{
+    let i = at.0;
+    order[i] = what.0 as u16;
+}
+
+// The kept positions of a line in memory order, to the first places, and their levels to the front.
+fn gather(classes: &[u8], from: Position, levels: &mut [u8], order: &mut [u16]) -> usize
+    requires { ⌜ length (now classes) ≤ length (now levels) ⌝ }
+    requires { ⌜ length (now classes) ≤ length (now order) ⌝ }
+    requires { ⌜ from .0 + length (now classes) ≤ 65536 ⌝ }
+    ensures { λ r. ⌜ Gathered (items (from .0) (now (classes .entry)) (now (levels .entry))) (now (levels .entry)) (now (order .entry)) r (now (levels .exit)) (now (order .exit)) ⌝ }
+{
+    let start = from.0;
+    let mut i = 0;
+    let mut k = 0;
+    while i < classes.len() {
+        if classes::is_removed(class_at(classes, Position(i))) {
+            i += 1;
+        } else {
+            let level = level_at(levels, Position(i));
+            pack(levels, Place(k), level);
+            put(order, Place(k), Position(start + i));
+            k += 1;
+            i += 1;
+        }
+    }
+    k
+}
+
+// Levels are compared as wider numbers, so that one above the highest fits too.
+fn wide(level: u8) -> u16
+    ensures { λ r. ⌜ r ≡ level ⌝ }
+{
+    level as u16
+}
+
+fn higher(a: u16, b: u16) -> u16
+    ensures { λ r. ⌜ r ≡ max a b ⌝ }
+{
+    if a < b { b } else { a }
+}
+
+fn highest_level(levels: &[u8]) -> u16
+    ensures { λ r. ⌜ r ≡ highest (atLevels (now (levels .entry))) ⌝ }
+    ensures { λ r. ⌜ r < 256 ⌝ }
+{
+    let mut top = 0;
+    let mut i = 0;
+    while i < levels.len() {
+        top = higher(top, wide(level_of(levels, Place(i))));
+        i += 1;
+    }
+    top
+}
+
+fn lower_odd(low: u16, level: u16) -> u16
+    ensures { λ r. ⌜ r ≡ (if isOdd level then min level low else low) ⌝ }
+{
+    if level % 2 == 1 {
+        if level < low {
+            return level;
+        }
+        return low;
+    }
+    low
+}
+
+// The lowest odd level, or `none` where there is none.
+fn lowest_odd_level(levels: &[u8], none: u16) -> u16
+    ensures { λ r. ⌜ r ≡ lowestOdd none (atLevels (now (levels .entry))) ⌝ }
+{
+    let mut low = none;
+    let mut i = 0;
+    while i < levels.len() {
+        low = lower_odd(low, wide(level_of(levels, Place(i))));
+        i += 1;
+    }
+    low
+}
+
+fn position_of(order: &[u16], at: Place) -> Position
+    requires { ⌜ at .0 < length (now order) ⌝ }
+    ensures { λ r. ⌜ (r .0 ≡ getD (now (order .entry)) (at .0) 0) × (r .0 < 65536) ⌝ }
+{
+    let i = at.0;
+    Position(order[i] as usize)
+}
+
+fn swap(order: &mut [u16], a: Place, b: Place)
+    requires { ⌜ a .0 < length (now order) ⌝ }
+    requires { ⌜ b .0 < length (now order) ⌝ }
+    ensures { λ r. ⌜ now (order .exit) ≡ set (set (now (order .entry)) (a .0) (getD (now (order .entry)) (b .0) 0)) (b .0) (getD (now (order .entry)) (a .0) 0) ⌝ }
+{
+    let left = position_of(order, a);
+    let right = position_of(order, b);
+    put(order, a, right);
+    put(order, b, left);
+}
+
+// What stands from one place up to, not including, another is turned round.
+fn reverse(order: &mut [u16], from: Place, to: Place)
+    requires { ⌜ from .0 ≤ to .0 ⌝ }
+    requires { ⌜ to .0 ≤ length (now order) ⌝ }
+    ensures { λ r. ⌜ Turned (from .0) (to .0) (now (order .entry)) (now (order .exit)) ⌝ }
+{
+    let mut i = from.0;
+    let mut j = to.0;
+    while 1 < j - i {
+        j -= 1;
+        swap(order, Place(i), Place(j));
+        i += 1;
+    }
+}
+
+// The first place from `from` on that is below the level, or the end.
+fn stretch_end(levels: &[u8], from: Place, level: u16) -> Place
+    requires { ⌜ from .0 ≤ length (now levels) ⌝ }
+    ensures { λ r. ⌜ r .0 ≡ from .0 + span level (drop (from .0) (now (levels .entry))) ⌝ }
+{
+    let mut i = from.0;
+    while i < levels.len() {
+        if wide(level_of(levels, Place(i))) < level {
+            return Place(i);
+        }
+        i += 1;
+    }
+    Place(i)
+}
+
+// One pass: every longest stretch at the level or above is turned round.
+fn pass(level: u16, levels: &[u8], order: &mut [u16])
+    requires { ⌜ length (now levels) ≤ length (now order) ⌝ }
+    ensures { λ r. ⌜ now (order .exit) ≡ passBy level [] (now (levels .entry)) (now (order .entry)) ⌝ }
+{
+    let mut i = 0;
+    while i < levels.len() {
+        let end = stretch_end(levels, Place(i), level);
+        reverse(order, Place(i), end);
+        i = end.0 + 1;
+    }
+}
+
+// A pass, then the next with the level one lower.
+fn passes(level: u16, lowest: u16, levels: &[u8], order: &mut [u16])
+    requires { ⌜ length (now levels) ≤ length (now order) ⌝ }
+    ensures { λ r. ⌜ now (order .exit) ≡ passesBy level lowest (now (levels .entry)) (now (order .entry)) ⌝ }
+{
+    if level == 0 {
+        return;
+    }
+    if level < lowest {
+        return;
+    }
+    pass(level, levels, order);
+    passes(level - 1, lowest, levels, order);
+}
+
+// The order of a line, given its own classes and levels, with a work buffer for the line's levels.
+fn order_with(
+    classes: &[u8],
+    levels: &[u8],
+    base: u8,
+    from: Position,
+    work: &mut [u8],
+    order: &mut [u16],
+) -> usize
+    requires { ⌜ length (now levels) ≡ length (now classes) ⌝ }
+    requires { ⌜ length (now classes) ≤ length (now work) ⌝ }
+    requires { ⌜ length (now classes) ≤ length (now order) ⌝ }
+    requires { ⌜ from .0 + length (now classes) ≤ 65536 ⌝ }
+    ensures { λ r. ⌜ Ordered (positions (L2 (items (from .0) (now (classes .entry)) (L1 base (now (classes .entry)) (now (levels .entry)))))) (now (order .entry)) r (now (order .exit)) ⌝ }
+    ensures { λ r. ⌜ now (work .exit) ≡ over (levelsOf (items (from .0) (now (classes .entry)) (L1 base (now (classes .entry)) (now (levels .entry))))) (over (L1 base (now (classes .entry)) (now (levels .entry))) (now (work .entry))) ⌝ }
+{
+    reset(classes, levels, base, work);
+    let count = gather(classes, from, work, order);
+    let kept = &work[..count];
+    let top = highest_level(kept);
+    let lowest = lowest_odd_level(kept, top + 1);
+    passes(top, lowest, kept, order);
+    count
+}
+
+// The order of the line from one position up to, not including, another. The work buffer is chosen by
+// the line's length, so that a short label does not pay for the longest line.
+pub fn order_line(
+    classes: &[u8],
+    levels: &[u8],
+    base: u8,
+    from: usize,
+    to: usize,
+    order: &mut [u16],
+) -> usize
+    requires { ⌜ from ≤ to ⌝ }
+    requires { ⌜ to ≤ length (now classes) ⌝ }
+    requires { ⌜ length (now classes) ≤ length (now levels) ⌝ }
+    requires { ⌜ length (now classes) ≤ 4096 ⌝ }
+    requires { ⌜ to - from ≤ length (now order) ⌝ }
+    ensures { λ r. ⌜ Ordered (lineOrder base (now (classes .entry)) (now (levels .entry)) from to) (now (order .entry)) r (now (order .exit)) ⌝ }
+{
+    if to - from <= 64 {
+        let mut short = [0u8; 64];
+        return order_with(
+            &classes[from..to],
+            &levels[from..to],
+            base,
+            Position(from),
+            &mut short,
+            order,
+        );
+    }
+    let mut long = [0u8; 4096];
+    order_with(
+        &classes[from..to],
+        &levels[from..to],
+        base,
+        Position(from),
+        &mut long,
+        order,
+    )
+}
+
+fn end_at(ends: &[u16], i: usize) -> usize
+    requires { ⌜ i < length (now ends) ⌝ }
+    ensures { λ r. ⌜ r ≡ getD (now (ends .entry)) i 0 ⌝ }
+{
+    ends[i] as usize
+}
+
+// The orders of all lines, each following the last one's.
+pub fn order_lines(
+    classes: &[u8],
+    levels: &[u8],
+    base: u8,
+    ends: &[u16],
+    order: &mut [u16],
+) -> usize
+    requires { ⌜ length (now classes) ≤ length (now levels) ⌝ }
+    requires { ⌜ length (now classes) ≤ 4096 ⌝ }
+    requires { ⌜ endsRise 0 (now ends) (length (now classes)) ≡ true ⌝ }
+    requires { ⌜ length (now classes) ≤ length (now order) ⌝ }
+    ensures { λ r. ⌜ Ordered (allOrders base (now (classes .entry)) (now (levels .entry)) 0 (now (ends .entry))) (now (order .entry)) r (now (order .exit)) ⌝ }
+{
+    let mut from = 0;
+    let mut count = 0;
+    let mut i = 0;
+    while i < ends.len() {
+        let to = end_at(ends, i);
+        count += order_line(classes, levels, base, from, to, &mut order[count..]);
+        from = to;
+        i += 1;
+    }
+    count
+}
