@@ -4,4 +4,5 @@ pub mod answers;
 pub mod base;
 pub mod cut;
 pub mod explicit_levels;
+pub mod order;
 pub mod resolve_levels;

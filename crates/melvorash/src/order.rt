@@ -1,0 +1,47 @@
+// Order: the positions of one line, or of all lines, from left to right.
+use crate::answers::OrderAnswer;
+use crate::answers::Placed;
+use refusals::Checked;
+ghost use Rattle.rules.specs.Jobs.{lineAnswer, lineBuffer, linesAnswer, linesBuffer};
+ghost use Rattle.melvorash.specs.Answers.{orderPage, Leaves};
+
+// The line from one position up to, not including, another.
+pub fn order_line(
+    classes: &[u8],
+    levels: &[u8],
+    base: u8,
+    from: usize,
+    to: usize,
+    order: &mut [u16],
+) -> OrderAnswer
+    ensures { λ r. ⌜ Leaves orderPage (lineAnswer (now (classes .entry)) (now (levels .entry)) base from to (now (order .entry))) (lineBuffer (now (classes .entry)) (now (levels .entry)) base from to (now (order .entry))) r (now (order .exit)) ⌝ }
+{
+    let checked = refusals::check_line(classes, levels, base, from, to, order.len());
+    match checked {
+        Checked::Refused(refusal) => OrderAnswer::Refused(refusal),
+        Checked::Sound => {
+            let count = line::order_line(classes, levels, base, from, to, order);
+            OrderAnswer::Ordered(Placed { count })
+        }
+    }
+}
+
+// All lines of the paragraph, given by their ends; each line's order follows the last one's.
+pub fn order_lines(
+    classes: &[u8],
+    levels: &[u8],
+    base: u8,
+    ends: &[u16],
+    order: &mut [u16],
+) -> OrderAnswer
+    ensures { λ r. ⌜ Leaves orderPage (linesAnswer (now (classes .entry)) (now (levels .entry)) base (now (ends .entry)) (now (order .entry))) (linesBuffer (now (classes .entry)) (now (levels .entry)) base (now (ends .entry)) (now (order .entry))) r (now (order .exit)) ⌝ }
+{
+    let checked = refusals::check_lines(classes, levels, base, ends, order.len());
+    match checked {
+        Checked::Refused(refusal) => OrderAnswer::Refused(refusal),
+        Checked::Sound => {
+            let count = line::order_lines(classes, levels, base, ends, order);
+            OrderAnswer::Ordered(Placed { count })
+        }
+    }
+}
