@@ -46,7 +46,7 @@ at-most-head : (n none : ℕ) (xs : List ℕ) → none ≤ n → AtMost n xs →
 at-most-head n none [] h p = h
 at-most-head n none (x ∷ xs) h p = p .0
 
-at-most-all : (n : ℕ) (xs : List ℕ) → ((i : ℕ) → getD xs i 0 ≤ n) → AtMost n xs
+pub at-most-all : (n : ℕ) (xs : List ℕ) → ((i : ℕ) → getD xs i 0 ≤ n) → AtMost n xs
 at-most-all n [] h = tt
 at-most-all n (x ∷ xs) h = (h 0, at-most-all n xs (λ i. h (suc i)))
 

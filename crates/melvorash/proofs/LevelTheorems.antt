@@ -1,0 +1,132 @@
+-- How high the written levels are, and that Order takes what Resolve wrote. Assumes nothing.
+use Prim.Native.Nat.{ℕ, zero, suc, _+_, _-_, _≤_, _<_}
+use native.Mathlib.Omega.{arith}
+use mathlib.Core.Path.{_≡_, refl, sym, ap, ap₂, _∙_}
+use mathlib.Core.Bool.{Bool, true, false, _||_, not}
+use mathlib.Core.Logic.{_⊎_, inl, inr}
+use mathlib.Core.List.{List, [], _∷_, _++_}
+use borrow.Author.Tests.{le-ltb, ltb-false}
+use lib.Dec.{leb, ltb}
+use lib.ListN.{length, drop, length-append, length-drop}
+use Rattle.rules.specs.Choice.{if_then_else_}
+use Rattle.rules.specs.Classes.{isRemoved}
+use Rattle.rules.specs.Paragraph.{baseOf}
+use Rattle.rules.specs.Explicit.{X1, explicitLevels, kept}
+use Rattle.rules.specs.Resolve.{resolvedLevels}
+use Rattle.rules.specs.Refusals.{Check, sound, refuse, _then_, refuseWhere, checkClasses, checkBase, checkLevelRoom, isBadLevel, firstBadLevel, isEmpty, endsRise, checkLine, checkEnds, checkOrderRoom, checksOfLevels, checksOfOrder, checksOfLine, checksOfLines}
+use Rattle.rules.specs.Jobs.{Answer, accepted, refused, answered, whereSound, over, levelsAnswer, explicitBuffer, resolveBuffer, lineAnswer, linesAnswer}
+use Rattle.rules.proofs.Passes.{by-test}
+use Rattle.refusals.proofs.SoundLaws.{levels-sound}
+use Rattle.paragraph.proofs.BaseLaws.{baseOf-small}
+use Rattle.explicit.proofs.ExplicitLaws.{length-levels, explicit-at-most-61}
+use Rattle.resolve.proofs.BoundLaws.{AtMost, at-most-all, resolved-accepted}
+use Rattle.resolve.proofs.WholeLaws.{length-resolved}
+use Rattle.melvorash.specs.Answers.{basePage, Leaves}
+use Rattle.melvorash.specs.declared.answers.BaseAnswer.{BaseAnswer}
+
+-- ---- an accepted answer is its value, and all checks found nothing wrong
+value-of : {m n : ℕ} → accepted m ≡ accepted n → m ≡ n
+value-of e = cc
+
+never : {n number place : ℕ} → refused number place ≡ accepted n → ⊥
+never e = let z : _≡_ {A = ℕ} 0 1 = cc in omega arith
+
+accepted-sound : (check : Check) (value n : ℕ) → answered check value ≡ accepted n → (check ≡ sound) × (value ≡ n)
+accepted-sound sound value n e = (refl, value-of e)
+accepted-sound (refuse number place) value n e = absurd (never e)
+
+-- ---- kept positions of a written buffer
+kept-over : (cs xs rest : List ℕ) → length xs ≡ length cs → kept cs (xs ++ rest) ≡ kept cs xs
+unfolding kept
+kept-over [] xs rest e = refl
+kept-over (c ∷ cs) [] rest e = absurd (omega arith)
+kept-over (c ∷ cs) (x ∷ xs) rest e =
+    ap (λ (ys : List ℕ). if isRemoved c then ys else x ∷ ys) (kept-over cs xs rest (omega arith))
+
+level-fits : (c l : ℕ) → isRemoved c ≡ false → isBadLevel c l ≡ false → l ≤ 62
+unfolding isBadLevel
+level-fits c l r e = let t : ltb 62 l ≡ false = rw r at e in ltb-false 62 l t
+
+not-sound : {number place : ℕ} → refuse number place ≡ sound → ⊥
+not-sound e = let z : _≡_ {A = ℕ} 0 1 = cc in omega arith
+
+kept-fit : (at : ℕ) (cs ls : List ℕ) → firstBadLevel at cs ls ≡ sound → AtMost 62 (kept cs ls)
+unfolding firstBadLevel kept
+kept-fit at [] ls e = tt
+kept-fit at (c ∷ cs) [] e = tt
+kept-fit at (c ∷ cs) (l ∷ ls) e =
+    by-test (isBadLevel c l)
+    (λ b. let z : refuse 7 at ≡ sound = rw b at e in absurd (not-sound z))
+    (λ b. let next : firstBadLevel (suc at) cs ls ≡ sound = rw b at e in
+    by-test (isRemoved c)
+    (λ r. rw r (kept-fit (suc at) cs ls next))
+    (λ r. rw r (level-fits c l r b, kept-fit (suc at) cs ls next)))
+
+-- ---- what Explicit and Resolve leave when they accept
+module _ (cs : List ℕ) (request : ℕ) (levels : List ℕ) (r : BaseAnswer) (after : List ℕ) (base : ℕ) where
+  module _ (p : Leaves basePage (levelsAnswer cs request levels) (explicitBuffer cs request levels) r after) (a : basePage r ≡ accepted base) where
+    -- what Explicit writes on kept positions is at most 61
+    pub explicit-low : AtMost 61 (kept cs after)
+    unfolding levelsAnswer explicitBuffer
+    explicit-low =
+        let s = accepted-sound (checksOfLevels cs request (length levels)) (baseOf request cs) base (sym (p .answer) ∙ a) in
+        let small : baseOf request cs ≤ 1 = baseOf-small request cs (levels-sound cs request (length levels) (s .0) .asked) in
+        let written : after ≡ over (explicitLevels (baseOf request cs) (X1 (baseOf request cs)) cs) levels = p .buffer ∙ rw (s .0) in
+        rw (written, kept-over cs (explicitLevels (baseOf request cs) (X1 (baseOf request cs)) cs) _ (length-levels (baseOf request cs) (X1 (baseOf request cs)) cs))
+        (at-most-all 61 (kept cs (explicitLevels (baseOf request cs) (X1 (baseOf request cs)) cs)) (explicit-at-most-61 (baseOf request cs) cs small))
+
+  module _ (p : Leaves basePage (levelsAnswer cs request levels) (resolveBuffer cs request levels) r after) (a : basePage r ≡ accepted base) where
+    resolved : (checksOfLevels cs request (length levels) ≡ sound) × (baseOf request cs ≡ base)
+    unfolding levelsAnswer
+    resolved = accepted-sound (checksOfLevels cs request (length levels)) (baseOf request cs) base (sym (p .answer) ∙ a)
+
+    low : base ≤ 1
+    low = rw (resolved .1) at (baseOf-small request cs (levels-sound cs request (length levels) (resolved .0) .asked))
+
+    written : after ≡ over (resolvedLevels base cs) levels
+    unfolding resolveBuffer
+    written = p .buffer ∙ rw (resolved .0, resolved .1)
+
+    none-bad : firstBadLevel 0 cs after ≡ sound
+    none-bad = rw written (resolved-accepted base cs (drop (length (resolvedLevels base cs)) levels) low)
+
+    -- what Resolve writes on kept positions is at most 62
+    pub resolve-low : AtMost 62 (kept cs after)
+    resolve-low = kept-fit 0 cs after none-bad
+
+    as-long : length after ≡ length levels
+    as-long =
+        let room : length cs ≤ length levels = levels-sound cs request (length levels) (resolved .0) .fits in
+        ap length written ∙ length-append (resolvedLevels base cs) (drop (length (resolvedLevels base cs)) levels)
+        ∙ omega (arith, length-drop (length (resolvedLevels base cs)) levels, length-resolved base cs)
+
+    -- lent Resolve's levels and base for the same classes, Order finds nothing wrong with either
+    pub order-takes-resolved : checksOfOrder cs after base ≡ sound
+    unfolding checksOfOrder checkBase checkLevelRoom
+    order-takes-resolved =
+        let s = levels-sound cs request (length levels) (resolved .0) in
+        let room : length cs ≤ length after = omega (arith, s .fits, as-long) in
+        rw (s .classes, le-ltb 1 base low, le-ltb (length after) (length cs) room, none-bad)
+
+-- ---- so it can refuse only with the line's own numbers
+refused-number : {m n p q : ℕ} → refused m p ≡ refused n q → m ≡ n
+refused-number e = cc
+
+never-accepted : {n number place : ℕ} → accepted n ≡ refused number place → ⊥
+never-accepted e = let z : _≡_ {A = ℕ} 0 1 = cc in omega arith
+
+two-tests : (b d : Bool) (m n value number place : ℕ) → answered (refuseWhere b m then refuseWhere d n) value ≡ refused number place → (number ≡ m) ⊎ (number ≡ n)
+two-tests true d m n value number place e = inl (sym (refused-number e))
+two-tests false true m n value number place e = inr (sym (refused-number e))
+two-tests false false m n value number place e = absurd (never-accepted e)
+
+-- neither 5 nor 7: 8 or 9 for one line, 10 or 9 for all lines
+pub line-refusals : (cs levels : List ℕ) (base from to : ℕ) (order : List ℕ) (number place : ℕ) → checksOfOrder cs levels base ≡ sound → lineAnswer cs levels base from to order ≡ refused number place → (number ≡ 8) ⊎ (number ≡ 9)
+unfolding lineAnswer checksOfLine checkLine checkOrderRoom
+line-refusals cs levels base from to order number place s e =
+    two-tests (leb to from || ltb (length cs) to) (ltb (length order) (to - from)) 8 9 _ number place (rw s at e)
+
+pub lines-refusals : (cs levels : List ℕ) (base : ℕ) (ends order : List ℕ) (number place : ℕ) → checksOfOrder cs levels base ≡ sound → linesAnswer cs levels base ends order ≡ refused number place → (number ≡ 10) ⊎ (number ≡ 9)
+unfolding linesAnswer checksOfLines checkEnds checkOrderRoom
+lines-refusals cs levels base ends order number place s e =
+    two-tests (isEmpty ends || not (endsRise 0 ends (length cs))) (ltb (length order) (length cs)) 10 9 _ number place (rw s at e)
