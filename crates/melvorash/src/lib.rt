@@ -1,8 +1,18 @@
 // The five jobs. Each checks its input, refuses it with the page's number and place, and then has
 // altered nothing; or does its work by the definitions of section 3.12.
-pub mod answers;
-pub mod base;
-pub mod cut;
-pub mod explicit_levels;
-pub mod order;
-pub mod resolve_levels;
+mod answers;
+mod levels;
+mod order;
+mod paragraphs;
+
+pub use answers::BaseAnswer;
+pub use answers::CutAnswer;
+pub use answers::OrderAnswer;
+pub use answers::Placed;
+pub use levels::explicit_levels;
+pub use levels::resolve_levels;
+pub use order::order_line;
+pub use order::order_lines;
+pub use paragraphs::base;
+pub use paragraphs::cut;
+pub use paragraphs::cut_part;

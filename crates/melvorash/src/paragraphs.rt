@@ -1,9 +1,10 @@
-// Cut: the first paragraph of the lent classes.
-use crate::answers::CutAnswer;
-use refusals::Refusal;
+// Cut and Base: the first paragraph of the lent classes, and the base level of one.
+use crate::answers::{BaseAnswer, CutAnswer};
+use refusals::{Checked, Refusal};
+
 ghost use mathlib.Core.Path.{_≡_};
-ghost use Rattle.rules.specs.Jobs.{cutAnswer, cutPart};
-ghost use Rattle.melvorash.specs.Answers.{cutPage, Answers};
+ghost use Rattle.rules.specs.Jobs.{cutAnswer, cutPart, baseAnswer};
+ghost use Rattle.melvorash.specs.Answers.{cutPage, basePage, Answers};
 
 // The paragraph's length. At most 4,096 positions are looked at, and none after the paragraph.
 pub fn cut(classes: &[u8]) -> CutAnswer
@@ -37,5 +38,16 @@ pub fn cut_part(classes: &[u8]) -> &[u8]
     match answer {
         CutAnswer::Length(length) => &classes[..length],
         CutAnswer::Refused(_) => &classes[..0],
+    }
+}
+
+// The base level of one paragraph, by its text.
+pub fn base(classes: &[u8]) -> BaseAnswer
+    ensures { λ r. ⌜ Answers basePage (baseAnswer (now (classes .entry))) r ⌝ }
+{
+    let checked = refusals::check_classes(classes);
+    match checked {
+        Checked::Refused(refusal) => BaseAnswer::Refused(refusal),
+        Checked::Sound => BaseAnswer::Level(paragraph::base_by_text(classes)),
     }
 }

@@ -3,11 +3,11 @@ use lib.Seq.{length-take-le}
 use Rattle.melvorash.specs.Answers.{cutPage}
 use Rattle.melvorash.proofs.CutLaws.{part-accepted, part-refused}
 use borrow.Author.Needs.{needs}
-use Rattle.melvorash.proofs.cut.cut_part.Statement.{statement}
-use Rattle.melvorash.proofs.cut.cut_part.Tie as tie
-use Rattle.melvorash.proofs.cut.cut_part.Reads as reads
-use Rattle.melvorash.proofs.cut.cut_part.Lts as lts
-use Rattle.melvorash.proofs.cut.cut.Reads as cut-reads
+use Rattle.melvorash.proofs.paragraphs.cut_part.Statement.{statement}
+use Rattle.melvorash.proofs.paragraphs.cut_part.Tie as tie
+use Rattle.melvorash.proofs.paragraphs.cut_part.Reads as reads
+use Rattle.melvorash.proofs.paragraphs.cut_part.Lts as lts
+use Rattle.melvorash.proofs.paragraphs.cut.Reads as cut-reads
 
 -- src/cut.rt:37:9
 cut-requires : tie.Need-cut-requires

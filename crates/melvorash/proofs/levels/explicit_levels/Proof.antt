@@ -8,10 +8,10 @@ use Rattle.paragraph.proofs.BaseLaws.{baseOf-small}
 use Rattle.melvorash.proofs.JobLaws.{answer-refused, answer-sound, left-refused, left-sound}
 use Rattle.rules.specs.Explicit.{X1, explicitLevels}
 use borrow.Author.Needs.{needs}
-use Rattle.melvorash.proofs.explicit_levels.explicit_levels.Statement.{statement}
-use Rattle.melvorash.proofs.explicit_levels.explicit_levels.Tie as tie
-use Rattle.melvorash.proofs.explicit_levels.explicit_levels.Reads as reads
-use Rattle.melvorash.proofs.explicit_levels.explicit_levels.Lts as lts
+use Rattle.melvorash.proofs.levels.explicit_levels.Statement.{statement}
+use Rattle.melvorash.proofs.levels.explicit_levels.Tie as tie
+use Rattle.melvorash.proofs.levels.explicit_levels.Reads as reads
+use Rattle.melvorash.proofs.levels.explicit_levels.Lts as lts
 use Rattle.explicit.proofs.explicit_levels.Reads as explicit-levels-reads
 use Rattle.paragraph.proofs.base_of.Reads as base-of-reads
 use Rattle.refusals.proofs.check_levels.Reads as check-levels-reads

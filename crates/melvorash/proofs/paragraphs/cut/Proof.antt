@@ -3,10 +3,10 @@ use lib.ListN.{length}
 use Rattle.rules.proofs.Tests.{known}
 use Rattle.melvorash.proofs.CutLaws.{Walking, walk-begun, cut-none, cut-done, cut-long, cut-unknown, cut-end, cut-on}
 use borrow.Author.Needs.{needs}
-use Rattle.melvorash.proofs.cut.cut.Statement.{statement}
-use Rattle.melvorash.proofs.cut.cut.Tie as tie
-use Rattle.melvorash.proofs.cut.cut.Reads as reads
-use Rattle.melvorash.proofs.cut.cut.Lts as lts
+use Rattle.melvorash.proofs.paragraphs.cut.Statement.{statement}
+use Rattle.melvorash.proofs.paragraphs.cut.Tie as tie
+use Rattle.melvorash.proofs.paragraphs.cut.Reads as reads
+use Rattle.melvorash.proofs.paragraphs.cut.Lts as lts
 use Rattle.classes.proofs.is_paragraph_end.Reads as is-paragraph-end-reads
 use Rattle.classes.proofs.is_unknown.Reads as is-unknown-reads
 

@@ -4,10 +4,10 @@ use Rattle.rules.specs.Jobs.{baseAnswer}
 use Rattle.refusals.specs.Page.{checkOf}
 use Rattle.melvorash.proofs.JobLaws.{answer-refused, answer-sound}
 use borrow.Author.Needs.{needs}
-use Rattle.melvorash.proofs.base.base.Statement.{statement}
-use Rattle.melvorash.proofs.base.base.Tie as tie
-use Rattle.melvorash.proofs.base.base.Reads as reads
-use Rattle.melvorash.proofs.base.base.Lts as lts
+use Rattle.melvorash.proofs.paragraphs.base.Statement.{statement}
+use Rattle.melvorash.proofs.paragraphs.base.Tie as tie
+use Rattle.melvorash.proofs.paragraphs.base.Reads as reads
+use Rattle.melvorash.proofs.paragraphs.base.Lts as lts
 use Rattle.paragraph.proofs.base_by_text.Reads as base-by-text-reads
 use Rattle.refusals.proofs.check_classes.Reads as check-classes-reads
 

@@ -8,10 +8,10 @@ use Rattle.paragraph.proofs.BaseLaws.{baseOf-small}
 use Rattle.melvorash.proofs.JobLaws.{answer-refused, answer-sound, left-refused, left-sound}
 use Rattle.rules.specs.Resolve.{resolvedLevels}
 use borrow.Author.Needs.{needs}
-use Rattle.melvorash.proofs.resolve_levels.resolve_levels.Statement.{statement}
-use Rattle.melvorash.proofs.resolve_levels.resolve_levels.Tie as tie
-use Rattle.melvorash.proofs.resolve_levels.resolve_levels.Reads as reads
-use Rattle.melvorash.proofs.resolve_levels.resolve_levels.Lts as lts
+use Rattle.melvorash.proofs.levels.resolve_levels.Statement.{statement}
+use Rattle.melvorash.proofs.levels.resolve_levels.Tie as tie
+use Rattle.melvorash.proofs.levels.resolve_levels.Reads as reads
+use Rattle.melvorash.proofs.levels.resolve_levels.Lts as lts
 use Rattle.paragraph.proofs.base_of.Reads as base-of-reads
 use Rattle.refusals.proofs.check_levels.Reads as check-levels-reads
 use Rattle.resolve.proofs.resolve_levels.Reads as resolve-levels-reads

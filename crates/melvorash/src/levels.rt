@@ -1,0 +1,37 @@
+// Explicit and Resolve: a level for each position. Each writes the first levels of the lent buffer and
+// answers the base level used.
+use crate::answers::BaseAnswer;
+use refusals::Checked;
+
+ghost use Rattle.rules.specs.Jobs.{levelsAnswer, explicitBuffer, resolveBuffer};
+ghost use Rattle.melvorash.specs.Answers.{basePage, Leaves};
+
+// The levels as they stand after X1 to X9.
+pub fn explicit_levels(classes: &[u8], request: u8, levels: &mut [u8]) -> BaseAnswer
+    ensures { λ r. ⌜ Leaves basePage (levelsAnswer (now (classes .entry)) request (now (levels .entry))) (explicitBuffer (now (classes .entry)) request (now (levels .entry))) r (now (levels .exit)) ⌝ }
+{
+    let checked = refusals::check_levels(classes, request, levels.len());
+    match checked {
+        Checked::Refused(refusal) => BaseAnswer::Refused(refusal),
+        Checked::Sound => {
+            let base = paragraph::base_of(request, classes);
+            explicit::explicit_levels(classes, base, levels);
+            BaseAnswer::Level(base)
+        }
+    }
+}
+
+// The levels as they stand after I1 and I2, before any line is known.
+pub fn resolve_levels(classes: &[u8], request: u8, levels: &mut [u8]) -> BaseAnswer
+    ensures { λ r. ⌜ Leaves basePage (levelsAnswer (now (classes .entry)) request (now (levels .entry))) (resolveBuffer (now (classes .entry)) request (now (levels .entry))) r (now (levels .exit)) ⌝ }
+{
+    let checked = refusals::check_levels(classes, request, levels.len());
+    match checked {
+        Checked::Refused(refusal) => BaseAnswer::Refused(refusal),
+        Checked::Sound => {
+            let base = paragraph::base_of(request, classes);
+            resolve::resolve_levels(classes, base, levels);
+            BaseAnswer::Level(base)
+        }
+    }
+}
