@@ -2,7 +2,6 @@
 // answers the base level used.
 use crate::answers::BaseAnswer;
 use refusals::Checked;
-
 ghost use Rattle.rules.specs.Jobs.{levelsAnswer, explicitBuffer, resolveBuffer};
 ghost use Rattle.melvorash.specs.Answers.{basePage, Leaves};
 

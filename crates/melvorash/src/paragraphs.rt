@@ -1,7 +1,8 @@
 // Cut and Base: the first paragraph of the lent classes, and the base level of one.
-use crate::answers::{BaseAnswer, CutAnswer};
-use refusals::{Checked, Refusal};
-
+use crate::answers::BaseAnswer;
+use crate::answers::CutAnswer;
+use refusals::Checked;
+use refusals::Refusal;
 ghost use mathlib.Core.Path.{_≡_};
 ghost use Rattle.rules.specs.Jobs.{cutAnswer, cutPart, baseAnswer};
 ghost use Rattle.melvorash.specs.Answers.{cutPage, basePage, Answers};

@@ -5,7 +5,7 @@ ghost use mathlib.Core.Bool.{Bool};
 ghost use Prim.Native.Nat.{_+_, _≤_, _<_};
 ghost use lib.ListN.{length, getD, drop};
 ghost use Rattle.rules.specs.Refusals.{faultAt, firstFault, checkClasses, isBadLevel, firstBadLevel, endsRise, checksOfLevels, checksOfOrder, checksOfLine, checksOfLines};
-ghost use Rattle.refusals.specs.Page.{checkOf};
+ghost use Rattle.refusals.specs.Page.{checkOf, numberOf, placeOf};
 
 // The longest paragraph, the highest resolved level, and what a level buffer holds where removed.
 pub const LONGEST: usize = 4096;
@@ -26,6 +26,43 @@ pub enum Refusal {
     BadLine,
     ShortOrder,
     BadEnds,
+}
+
+// A refusal in the page's terms.
+impl Refusal {
+    pub fn number(self) -> u8
+        ensures { λ r. ⌜ r ≡ numberOf self ⌝ }
+    {
+        match self {
+            Refusal::NoClasses => 1,
+            Refusal::UnknownClass(_) => 2,
+            Refusal::TooLong => 3,
+            Refusal::EarlySeparator(_) => 4,
+            Refusal::BadBase => 5,
+            Refusal::ShortLevels => 6,
+            Refusal::BadLevel(_) => 7,
+            Refusal::BadLine => 8,
+            Refusal::ShortOrder => 9,
+            Refusal::BadEnds => 10,
+        }
+    }
+
+    pub fn place(self) -> usize
+        ensures { λ r. ⌜ r ≡ placeOf self ⌝ }
+    {
+        match self {
+            Refusal::NoClasses => 0,
+            Refusal::UnknownClass(at) => at,
+            Refusal::TooLong => 0,
+            Refusal::EarlySeparator(at) => at,
+            Refusal::BadBase => 0,
+            Refusal::ShortLevels => 0,
+            Refusal::BadLevel(at) => at,
+            Refusal::BadLine => 0,
+            Refusal::ShortOrder => 0,
+            Refusal::BadEnds => 0,
+        }
+    }
 }
 
 pub enum Checked {

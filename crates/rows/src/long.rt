@@ -1,0 +1,123 @@
+// The rows that are too long to be written out: nesting around level 61, and 4,096 positions.
+use crate::lent;
+use crate::run;
+use crate::say;
+use classes::B;
+use classes::L;
+use classes::LRE;
+use classes::PDF;
+use classes::RLE;
+use melvorash::BaseAnswer;
+use melvorash::OrderAnswer;
+
+// RLE, LRE, RLE and so on.
+fn nested(i: usize) -> u8 {
+    if i % 2 == 0 {
+        return RLE;
+    }
+    LRE
+}
+
+fn put(row: &mut [u8], i: usize, class: u8) {
+    if i < row.len() {
+        row[i] = class;
+    }
+}
+
+// The first n classes become codes, each valid while levels last.
+fn nest(row: &mut [u8], n: usize) {
+    let mut i = 0;
+    while i < n {
+        put(row, i, nested(i));
+        i += 1;
+    }
+}
+
+// From base 0, 60 codes reach level 60; then LRE (invalid) and RLE (valid).
+pub(crate) fn invalid_codes() {
+    let mut room = [L; 69];
+    let row: &mut [u8] = &mut room;
+    nest(row, 60);
+    put(row, 60, LRE);
+    put(row, 61, RLE);
+    put(row, 63, PDF);
+    put(row, 65, PDF);
+    put(row, 67, PDF);
+    run::explicit(b"60 codes LRE RLE L PDF L PDF L PDF L", row, 0);
+    run::row(b"60 codes LRE RLE L PDF L PDF L PDF L", row, 0);
+}
+
+// 61 codes reach level 61, and an L there resolves to 62.
+fn deepest() {
+    let mut room = [L; 62];
+    let row: &mut [u8] = &mut room;
+    nest(row, 61);
+    run::row(b"61 codes L", row, 0);
+}
+
+// The 62nd code is invalid, and the first PDF is its own.
+fn too_deep() {
+    let mut room = [L; 67];
+    let row: &mut [u8] = &mut room;
+    nest(row, 62);
+    put(row, 63, PDF);
+    put(row, 65, PDF);
+    run::row(b"62 codes L PDF L PDF L", row, 0);
+}
+
+fn resolved(classes: &[u8]) {
+    let mut levels = [lent::LEVEL; 4097];
+    let answer = melvorash::resolve_levels(classes, 0, &mut levels);
+    match answer {
+        BaseAnswer::Refused(refusal) => {
+            say::refused(refusal);
+            lent::levels_untouched(&levels);
+        }
+        BaseAnswer::Level(_) => ordered(classes, &levels),
+    }
+    say::text(b"\n");
+}
+
+fn ordered(classes: &[u8], levels: &[u8]) {
+    let mut order = [lent::PLACE; 4097];
+    let answer = melvorash::order_line(classes, levels, 0, 0, classes.len(), &mut order);
+    match answer {
+        OrderAnswer::Refused(refusal) => say::refused(refusal),
+        OrderAnswer::Ordered(placed) => {
+            say::text(b" ordered ");
+            say::number(placed.count);
+            say::text(b", the last place and the one after:");
+            say::order(&order[4095..4097], 2);
+        }
+    }
+}
+
+// 4,096 positions are accepted and 4,097 refused; Cut looks at no more than 4,096.
+fn longest() {
+    let row = [L; 4097];
+    say::text(b"4,096 positions:");
+    resolved(&row[..4096]);
+    say::text(b"4,097 positions:");
+    resolved(&row);
+    run::cut(b"4,096 positions", &row[..4096]);
+    run::cut(b"4,097 positions", &row);
+    let mut faulty = [L; 4097];
+    faulty[4096] = 19;
+    say::text(b"4,097 positions, class 19 at the last:");
+    resolved(&faulty);
+    run::cut(b"4,097 positions, class 19 at the last", &faulty);
+    faulty[4095] = 19;
+    run::cut(b"4,097 positions, class 19 at the 4,096th", &faulty);
+    faulty[4095] = B;
+    run::cut(b"4,097 positions, B at the 4,096th", &faulty);
+    faulty[4095] = L;
+    faulty[4096] = B;
+    run::cut(b"4,097 positions, B at the last", &faulty);
+}
+
+pub(crate) fn edges() {
+    say::text(b"edges\n");
+    deepest();
+    too_deep();
+    longest();
+}
