@@ -311,26 +311,15 @@ pub fn order_line(
     requires { ⌜ to - from ≤ length (now order) ⌝ }
     ensures { λ r. ⌜ Ordered (lineOrder base (now (classes .entry)) (now (levels .entry)) from to) (now (order .entry)) r (now (order .exit)) ⌝ }
 {
+    let line = &classes[from..to];
+    let own = &levels[from..to];
+    let start = Position(from);
     if to - from <= 64 {
         let mut short = [0u8; 64];
-        return order_with(
-            &classes[from..to],
-            &levels[from..to],
-            base,
-            Position(from),
-            &mut short,
-            order,
-        );
+        return order_with(line, own, base, start, &mut short, order);
     }
     let mut long = [0u8; 4096];
-    order_with(
-        &classes[from..to],
-        &levels[from..to],
-        base,
-        Position(from),
-        &mut long,
-        order,
-    )
+    order_with(line, own, base, start, &mut long, order)
 }
 
 fn end_at(ends: &[u16], i: usize) -> usize
