@@ -18,7 +18,7 @@ use Rattle.rules.specs.Jobs.{over}
 use Rattle.rules.specs.Line.{Item, L1, L2, items, pass, passes, highest, lowestOdd, part, lineLevels, lineOrder, allOrders}
 use Rattle.rules.specs.Refusals.{endsRise}
 use Rattle.rules.proofs.Lists.{drop-next}
-use Rattle.line.specs.Gathered.{Gathered, positions, levelsOf}
+use Rattle.line.specs.Gathered.{Gathered, positions, levelsOf, lineItems}
 use Rattle.line.specs.Ordered.{Ordered}
 use Rattle.line.specs.Passes.{atLevels, passesBy}
 use Rattle.line.proofs.Filling.{Filled, filled-begun, filled-part, filled-ended}
@@ -76,10 +76,6 @@ items-over at (c ∷ cs) [] more h = absurd (omega arith)
 items-over at (c ∷ cs) (l ∷ ls) more h =
     items-same (isRemoved c) (record { position = at; level = l }) (items (suc at) cs (ls ++ more)) (items (suc at) cs ls) (items-over (suc at) cs ls more (omega arith))
 
--- the items of a line with its own classes and levels
-abbrev pub lineItems : ℕ → ℕ → List ℕ → List ℕ → List Item
-lineItems base from cs ls = items from cs (L1 base cs ls)
-
 module _ (base from : ℕ) (cs ls work work₁ work₂ order order₂ : List ℕ) (r : ℕ) (same : length ls ≡ length cs) (reset : work₁ ≡ over (L1 base cs ls) work) (gathered : Gathered (items from cs work₁) work₁ order r work₂ order₂) where
   line-items : items from cs work₁ ≡ lineItems base from cs ls
   line-items = ap (items from cs) reset ∙ items-over from cs (L1 base cs ls) (drop (length (L1 base cs ls)) work) (length-L1 base cs ls same)
@@ -112,7 +108,7 @@ module _ (base from : ℕ) (cs ls work work₁ work₂ order order₂ : List ℕ
       let long : length (positions (L2 xs)) ≡ length (positions xs) = length-positions (L2 xs) ∙ length-L2 xs ∙ sym (length-positions xs) in
       record {
         count = line-gathered .count ∙ sym (length-positions (L2 xs) ∙ length-L2 xs);
-        placed = eo ∙ (λ j. passesBy (top-is j) (lowest-is j) (line-levels j) (line-gathered .placed j))
+        order = eo ∙ (λ j. passesBy (top-is j) (lowest-is j) (line-levels j) (line-gathered .placed j))
             ∙ passes-positions (highest xs) (lowestOdd (suc (highest xs)) xs) xs (drop (length (positions xs)) order)
             ∙ ap (λ (n : ℕ). positions (L2 xs) ++ drop n order) (sym long);
       }
@@ -202,11 +198,11 @@ module _ (base : ℕ) (cs ls ends order₀ order : List ℕ) (from count i : ℕ
         omega arith
 
     -- and so many of them are written, which leaves room for the lines to come
-    pub count-next : (r : ℕ) → r ≡ length (lineOrder base cs ls from to) → count + r ≤ to
-    count-next r n =
+    pub count-next : (base′ r : ℕ) → r ≡ length (lineOrder base′ cs ls from to) → count + r ≤ to
+    count-next base′ r n =
         let w = next-line in
         let b : count ≤ from = l .behind in
-        let long : length (lineOrder base cs ls from to) ≤ to - from = length-lineOrder base cs ls from to (w .1) in
+        let long : length (lineOrder base′ cs ls from to) ≤ to - from = length-lineOrder base′ cs ls from to (w .1) in
         omega arith
 
     pub lines-next : (r : ℕ) (part′ order′ : List ℕ) → length cs ≤ length order₀ → Ordered (lineOrder base cs ls from to) (take (length order - count) (drop count order)) r part′ → order′ ≡ putMid count (length order - count) order part′ → Lines base cs ls ends order₀ order′ to (count + r) (i + 1)
@@ -214,10 +210,10 @@ module _ (base : ℕ) (cs ls ends order₀ order : List ℕ) (from count i : ℕ
         let w = next-line in
         let m : length order ≡ length order₀ = l .filled .long in
         let n : r ≡ length (lineOrder base cs ls from to) = o .count in
-        let within : count + r ≤ to = count-next r n in
+        let within : count + r ≤ to = count-next base r n in
         let line : List ℕ = lineOrder base cs ls from to in
         let part-is : part′ ≡ line ++ drop (count + r) order =
-        o .placed ∙ ap (λ (x : List ℕ). line ++ drop (length line) x) lent-is ∙ ap (λ (x : List ℕ). line ++ x) (drop-drop (length line) count order)
+        o .order ∙ ap (λ (x : List ℕ). line ++ drop (length line) x) lent-is ∙ ap (λ (x : List ℕ). line ++ x) (drop-drop (length line) count order)
         ∙ ap (λ (x : ℕ). line ++ drop (count + x) order) (sym n) in
         let order-is : order′ ≡ (take count order ++ line) ++ drop (count + r) order =
         e ∙ ap (λ (x : List ℕ). take count order ++ (part′ ++ x)) (post-is count (length order) order (omega (arith, l .behind)) ∙ drop-length order)
@@ -243,4 +239,4 @@ module _ (base : ℕ) (cs ls ends order₀ order : List ℕ) (from count i : ℕ
       let m : length order ≡ length order₀ = l .filled .long in
       let d = filled-ended (allOrders base cs ls 0 ends) order₀ order count (omega (arith, l .behind, l .inside))
       (subst (λ (es : List ℕ). Filled (allOrders base cs ls 0 ends) order₀ order count (allOrders base cs ls from es)) (drop-of-length-le ends h) (l .filled)) in
-      record { count = d .1; placed = d .0 }
+      record { count = d .1; order = d .0 }

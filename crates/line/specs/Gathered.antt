@@ -4,13 +4,17 @@ use mathlib.Core.Path.{_≡_}
 use mathlib.Core.List.{List, map}
 use lib.ListN.{length}
 use Rattle.rules.specs.Jobs.{over}
-use Rattle.rules.specs.Line.{Item}
+use Rattle.rules.specs.Line.{Item, L1, items}
 
 abbrev pub positions : List Item → List ℕ
 positions xs = map (λ (x : Item). x .position) xs
 
 abbrev pub levelsOf : List Item → List ℕ
 levelsOf xs = map (λ (x : Item). x .level) xs
+
+-- the items of a line that begins at a position, from its own classes and levels and the base: its reset, then what is kept
+abbrev pub lineItems : ℕ → ℕ → List ℕ → List ℕ → List Item
+lineItems base from cs ls = items from cs (L1 base cs ls)
 
 -- how many items there are, and what both buffers are after them
 pub record Gathered (xs : List Item) (levels order : List ℕ) (r : ℕ) (levels′ order′ : List ℕ) : Type 0 where

@@ -5,6 +5,6 @@ use mathlib.Core.List.{List}
 use lib.ListN.{length}
 use Rattle.rules.specs.Jobs.{over}
 
-pub record Ordered (order entry : List ℕ) (r : ℕ) (exit : List ℕ) : Type 0 where
-  pub count : r ≡ length order
-  pub placed : exit ≡ over order entry
+pub record Ordered (wanted entry : List ℕ) (r : ℕ) (exit : List ℕ) : Type 0 where
+  pub count : r ≡ length wanted
+  pub order : exit ≡ over wanted entry

@@ -11,7 +11,7 @@ ghost use Rattle.rules.specs.Classes.{isRemoved, isSeparator, isBlank};
 ghost use Rattle.rules.specs.Jobs.{over};
 ghost use Rattle.rules.specs.Line.{L1, L2, items, highest, lowestOdd, lineOrder, allOrders};
 ghost use Rattle.rules.specs.Refusals.{endsRise};
-ghost use Rattle.line.specs.Gathered.{Gathered, positions, levelsOf};
+ghost use Rattle.line.specs.Gathered.{Gathered, positions, levelsOf, lineItems};
 ghost use Rattle.line.specs.Ordered.{Ordered};
 ghost use Rattle.line.specs.Passes.{atLevels, span, passBy, passesBy, Turned};
 
@@ -21,6 +21,7 @@ pub struct Position(pub usize);
 // A place of the order, from left to right.
 pub struct Place(pub usize);
 
+// The functions over a position or a place are the only ones that index a buffer of the line.
 fn class_at(classes: &[u8], at: Position) -> u8
     requires { ⌜ at .0 < length (now classes) ⌝ }
     ensures { λ r. ⌜ r ≡ getD (now (classes .entry)) (at .0) 0 ⌝ }
@@ -282,8 +283,8 @@ fn order_with(
     requires { ⌜ length (now classes) ≤ length (now work) ⌝ }
     requires { ⌜ length (now classes) ≤ length (now order) ⌝ }
     requires { ⌜ from .0 + length (now classes) ≤ 65536 ⌝ }
-    ensures { λ r. ⌜ Ordered (positions (L2 (items (from .0) (now (classes .entry)) (L1 base (now (classes .entry)) (now (levels .entry)))))) (now (order .entry)) r (now (order .exit)) ⌝ }
-    ensures { λ r. ⌜ now (work .exit) ≡ over (levelsOf (items (from .0) (now (classes .entry)) (L1 base (now (classes .entry)) (now (levels .entry))))) (over (L1 base (now (classes .entry)) (now (levels .entry))) (now (work .entry))) ⌝ }
+    ensures { λ r. ⌜ Ordered (positions (L2 (lineItems base (from .0) (now (classes .entry)) (now (levels .entry))))) (now (order .entry)) r (now (order .exit)) ⌝ }
+    ensures { λ r. ⌜ now (work .exit) ≡ over (levelsOf (lineItems base (from .0) (now (classes .entry)) (now (levels .entry)))) (over (L1 base (now (classes .entry)) (now (levels .entry))) (now (work .entry))) ⌝ }
 {
     reset(classes, levels, base, work);
     let count = gather(classes, from, work, order);
@@ -311,28 +312,18 @@ pub fn order_line(
     requires { ⌜ to - from ≤ length (now order) ⌝ }
     ensures { λ r. ⌜ Ordered (lineOrder base (now (classes .entry)) (now (levels .entry)) from to) (now (order .entry)) r (now (order .exit)) ⌝ }
 {
+    let line = &classes[from..to];
+    let own = &levels[from..to];
+    let start = Position(from);
     if to - from <= 64 {
         let mut short = [0u8; 64];
-        return order_with(
-            &classes[from..to],
-            &levels[from..to],
-            base,
-            Position(from),
-            &mut short,
-            order,
-        );
+        return order_with(line, own, base, start, &mut short, order);
     }
     let mut long = [0u8; 4096];
-    order_with(
-        &classes[from..to],
-        &levels[from..to],
-        base,
-        Position(from),
-        &mut long,
-        order,
-    )
+    order_with(line, own, base, start, &mut long, order)
 }
 
+// Where a line ends, the lines being counted from 0.
 fn end_at(ends: &[u16], i: usize) -> usize
     requires { ⌜ i < length (now ends) ⌝ }
     ensures { λ r. ⌜ r ≡ getD (now (ends .entry)) i 0 ⌝ }

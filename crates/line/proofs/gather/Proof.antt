@@ -3,7 +3,7 @@
 use mathlib.Core.Path.{sym, _∙_}
 use Prim.Native.Nat.{_-_}
 use lib.ListN.{length}
-use Rattle.line.proofs.GatherLaws.{Gathering, passed-over, taken-up, ended}
+use Rattle.line.proofs.GatherLaws.{Gathering, begun, passed-over, taken-up, ended}
 use borrow.Author.Needs.{needs}
 use Rattle.line.proofs.gather.Statement.{statement}
 use Rattle.line.proofs.gather.Tie as tie
@@ -15,7 +15,7 @@ abbrev μ-loop : tie.MeasureT-loop
 μ-loop classes levels₀ order₀ start i₀ k₀ levels order i k = length classes - i
 
 loop-holds : tie.Need-loop-holds Inv-loop μ-loop
-loop-holds c = search needs
+loop-holds c = begun _ _ _ _
 
 class-at-requires : tie.Need-class-at-requires Inv-loop μ-loop
 class-at-requires c κs = search needs

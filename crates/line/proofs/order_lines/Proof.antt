@@ -59,7 +59,7 @@ add-count c =
     let start = at-loop .before .before .before .before .before in
     let args = start .args in
     let w = next-line (args .base) (args .classes .now) (args .levels .now) (args .ends .now) (args .order .now) _ _ _ _ (at-loop .loop .inv) (ended .before .loop-test .taken) _ (ended .end-at .ensures) in
-    let n = count-next (args .base) (args .classes .now) (args .levels .now) (args .ends .now) (args .order .now) _ _ _ _ (at-loop .loop .inv) (ended .before .loop-test .taken) _ (ended .end-at .ensures) _ (c .before .before .order-line .ensures .count) in
+    let n = count-next (args .base) (args .classes .now) (args .levels .now) (args .ends .now) (args .order .now) _ _ _ _ (at-loop .loop .inv) (ended .before .loop-test .taken) _ (ended .end-at .ensures) _ _ (c .before .before .order-line .ensures .count) in
     omega arith
 
 add-i : tie.Need-add-i Inv-loop μ-loop
