@@ -5,17 +5,93 @@ use Prim.Native.Nat.{ℕ, zero, suc, _+_, _≤_, _<_}
 use native.Mathlib.Omega.{arith}
 use mathlib.Core.Bool.{Bool, true, false}
 use mathlib.Core.Path.{_≡_, refl, sym, ap, _∙_}
+use mathlib.Core.Logic.{_⊎_, inl, inr}
 use mathlib.Core.List.{List, [], _∷_, _++_, reverseAux, reverse, append-nil}
 use lib.Dec.{eqb, leb, ltb}
-use lib.ListN.{length, getD}
+use borrow.Author.Tests.{le-leb, lt-leb}
 use Rattle.rules.specs.Choice.{if_then_else_}
 use Rattle.rules.specs.Line.{Item, pass, passes}
+use Rattle.rules.proofs.Lists.{le-or-lt}
 use Rattle.rules.proofs.Passes.{by-test}
 
-one : Bool → ℕ
+-- a case split on the order of two numbers
+pub by-order : {A : Type 0} (a b : ℕ) → (a ≤ b → A) → (b < a → A) → A
+by-order {A} a b upTo above = go (le-or-lt a b)
+  where
+    go : (a ≤ b) ⊎ (b < a) → A
+    go (inl h) = upTo h
+    go (inr h) = above h
+
+-- ---- A pass, by its equations
+
+pub pass-nil : (n : ℕ) (stretch : List Item) → pass n stretch [] ≡ stretch
+unfolding pass
+pass-nil n stretch = refl
+
+pub pass-high : (n : ℕ) (stretch : List Item) (x : Item) (xs : List Item) → leb n (x .level) ≡ true → pass n stretch (x ∷ xs) ≡ pass n (x ∷ stretch) xs
+unfolding pass
+pass-high n stretch x xs e = rw e
+
+pub pass-low : (n : ℕ) (stretch : List Item) (x : Item) (xs : List Item) → leb n (x .level) ≡ false → pass n stretch (x ∷ xs) ≡ stretch ++ (x ∷ pass n [] xs)
+unfolding pass
+pass-low n stretch x xs e = rw e
+
+-- no pass where the lowest level is above the highest
+pub passes-none : (h n : ℕ) (xs : List Item) → h < n → passes h n xs ≡ xs
+unfolding passes
+passes-none zero n xs below = refl
+passes-none (suc h) n xs below = rw (lt-leb n (suc h) below)
+
+pub passes-end : (n : ℕ) (xs : List Item) → passes zero n xs ≡ xs
+unfolding passes
+passes-end n xs = refl
+
+-- the first pass, and what is left after it
+pub passes-first : (h n : ℕ) (xs : List Item) → n ≤ suc h → passes (suc h) n xs ≡ passes h n (pass (suc h) [] xs)
+unfolding passes
+passes-first h n xs within = rw (le-leb n (suc h) within)
+
+-- ---- Counting
+
+abbrev pub one : Bool → ℕ
 one true = 1
 one false = 0
 
-count : (Item → Bool) → List Item → ℕ
+abbrev pub count : (Item → Bool) → List Item → ℕ
 count test [] = 0
 count test (x ∷ xs) = one (test x) + count test xs
+
+-- the tests in use: the item's position, its level, and whether its level is below a given one
+abbrev pub standsAt : ℕ → Item → Bool
+standsAt z x = eqb (x .position) z
+
+abbrev pub isOf : ℕ → Item → Bool
+isOf l x = eqb (x .level) l
+
+abbrev pub isBelow : ℕ → Item → Bool
+isBelow n x = ltb (x .level) n
+
+module _ (test : Item → Bool) where
+  pub count-append : (xs ys : List Item) → count test (xs ++ ys) ≡ count test xs + count test ys
+  count-append [] ys = omega arith
+  count-append (x ∷ xs) ys = let rest : count test (xs ++ ys) ≡ count test xs + count test ys = count-append xs ys in omega arith
+
+  pub count-reverseAux : (xs ys : List Item) → count test (reverseAux xs ys) ≡ count test xs + count test ys
+  count-reverseAux [] ys = omega arith
+  count-reverseAux (x ∷ xs) ys = let rest : count test (reverseAux xs (x ∷ ys)) ≡ count test xs + (one (test x) + count test ys) = count-reverseAux xs (x ∷ ys) in omega arith
+
+  pub count-pass : (n : ℕ) (stretch xs : List Item) → count test (pass n stretch xs) ≡ count test stretch + count test xs
+  count-pass n stretch [] = rw (pass-nil n stretch) (omega arith)
+  count-pass n stretch (x ∷ xs) =
+      by-test (leb n (x .level))
+      (λ high. let rest : count test (pass n (x ∷ stretch) xs) ≡ one (test x) + count test stretch + count test xs = count-pass n (x ∷ stretch) xs in rw (pass-high n stretch x xs high) (omega arith))
+      (λ low.
+      let rest : count test (pass n [] xs) ≡ 0 + count test xs = count-pass n [] xs in
+      rw (pass-low n stretch x xs low, count-append stretch (x ∷ pass n [] xs)) (omega arith))
+
+  pub count-passes : (h n : ℕ) (xs : List Item) → count test (passes h n xs) ≡ count test xs
+  count-passes zero n xs = rw (passes-end n xs)
+  count-passes (suc h) n xs =
+      by-order n (suc h)
+      (λ within. ap (count test) (passes-first h n xs within) ∙ count-passes h n (pass (suc h) [] xs) ∙ count-pass (suc h) [] xs ∙ omega arith)
+      (λ past. ap (count test) (passes-none (suc h) n xs past))

@@ -1,2 +1,6 @@
 -- The proof of demand 3.
 pub mod Count
+pub mod Stretches
+pub mod Sides
+pub mod Least
+pub mod Pairs
