@@ -4,3 +4,5 @@ pub mod Stretches
 pub mod Sides
 pub mod Least
 pub mod Pairs
+pub mod Places
+pub mod LineItems
