@@ -5,4 +5,6 @@ pub mod Sides
 pub mod Least
 pub mod Pairs
 pub mod Places
+pub mod Parts
 pub mod LineItems
+pub mod Theorem

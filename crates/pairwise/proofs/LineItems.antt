@@ -7,14 +7,17 @@ use mathlib.Core.Bool.{Bool, true, false}
 use mathlib.Core.Path.{_≡_, refl, sym, ap, _∙_}
 use mathlib.Core.List.{List, [], _∷_, _++_, map}
 use lib.Dec.{eqb}
-use lib.ListN.{length, getD}
+use lib.ListN.{length, getD, take, drop}
+use lib.Seq.{length-take-le}
 use borrow.Author.Tests.{eq-eqb, eqb-true, ne-eqb}
 use Rattle.rules.specs.Classes.{isRemoved}
 use Rattle.rules.specs.Explicit.{kept}
-use Rattle.rules.specs.Line.{Item, items}
+use Rattle.rules.specs.Line.{Item, items, part}
 use Rattle.rules.proofs.Passes.{by-test}
 use Rattle.pairwise.proofs.Count.{one, count, standsAt}
 use Rattle.pairwise.proofs.Least.{levels}
+use Rattle.pairwise.proofs.Pairs.{from-to}
+use Rattle.pairwise.proofs.Parts.{length-part, split-part, part-ends}
 
 -- the item of a position at a level
 abbrev pub item : ℕ → ℕ → Item
@@ -117,3 +120,80 @@ module _ (z : ℕ) where
     where
       further : (i : ℕ) × (z ≡ suc at + i) × (i < length cs) × (isRemoved (getD cs i 0) ≡ false) → (i : ℕ) × (z ≡ at + i) × (i < length (c ∷ cs)) × (isRemoved (getD (c ∷ cs) i 0) ≡ false)
       further (i, is, within, stays) = (suc i, omega arith, omega arith, stays)
+
+-- ---- The items from one kept position to a later one
+
+-- among the items ds those from x to y, both counted, and their levels
+pub record Spanned (ds : List Item) (x y : ℕ) (ls : List ℕ) : Type 0 where
+  pub ahead : List Item
+  pub between : List Item
+  pub behind : List Item
+  pub level-x : ℕ
+  pub level-y : ℕ
+  pub joined : ds ≡ ahead ++ (from-to (item x level-x) between (item y level-y) ++ behind)
+  pub of-levels : levels (from-to (item x level-x) between (item y level-y)) ≡ ls
+
+module _ (at : ℕ) (cs ls : List ℕ) (same : length cs ≡ length ls) (i j : ℕ) (less : i < j) (within : j < length cs) (stays-i : isRemoved (getD cs i 0) ≡ false) (stays-j : isRemoved (getD cs j 0) ≡ false) where
+  abbrev first-item : Item
+  first-item = item (at + i) (getD ls i 0)
+
+  abbrev last-item : Item
+  last-item = item (at + j) (getD ls j 0)
+
+  abbrev items-between : List Item
+  items-between = items (suc (at + i)) (part (suc i) j cs) (part (suc i) j ls)
+
+  same-between : length (part (suc i) j cs) ≡ length (part (suc i) j ls)
+  same-between = length-part (suc i) j cs less (omega arith) ∙ sym (length-part (suc i) j ls less (omega arith))
+
+  same-part : length (part i (suc j) cs) ≡ length (part i (suc j) ls)
+  same-part = length-part i (suc j) cs (omega arith) within ∙ sym (length-part i (suc j) ls (omega arith) (omega arith))
+
+  last-alone : items (suc (at + i) + length (part (suc i) j cs)) (getD cs j 0 ∷ []) (getD ls j 0 ∷ []) ≡ last-item ∷ []
+  last-alone =
+      let there : suc (at + i) + length (part (suc i) j cs) ≡ at + j = omega (arith, length-part (suc i) j cs less (omega arith)) in
+      ap (λ (k : ℕ). items k (getD cs j 0 ∷ []) (getD ls j 0 ∷ [])) there
+      ∙ items-kept (at + j) (getD cs j 0) (getD ls j 0) [] [] stays-j
+      ∙ ap (λ (r : List Item). last-item ∷ r) (items-nil (suc (at + j)) [])
+
+  items-of-part : items (at + i) (part i (suc j) cs) (part i (suc j) ls) ≡ from-to first-item items-between last-item
+  items-of-part =
+      ap (λ (r : List ℕ). items (at + i) r (part i (suc j) ls)) (part-ends i j cs less within)
+      ∙ ap (items (at + i) (getD cs i 0 ∷ (part (suc i) j cs ++ (getD cs j 0 ∷ [])))) (part-ends i j ls less (omega arith))
+      ∙ items-kept (at + i) (getD cs i 0) (getD ls i 0) (part (suc i) j cs ++ (getD cs j 0 ∷ [])) (part (suc i) j ls ++ (getD ls j 0 ∷ [])) stays-i
+      ∙ ap (λ (r : List Item). first-item ∷ r)
+      (items-append (suc (at + i)) (part (suc i) j cs) (getD cs j 0 ∷ []) (part (suc i) j ls) (getD ls j 0 ∷ []) same-between
+      ∙ ap (λ (r : List Item). items-between ++ r) last-alone)
+
+  levels-from-to : levels (from-to first-item items-between last-item) ≡ kept (part i (suc j) cs) (part i (suc j) ls)
+  levels-from-to = ap levels (sym items-of-part) ∙ levels-items (at + i) (part i (suc j) cs) (part i (suc j) ls) same-part
+
+  abbrev items-ahead : List Item
+  items-ahead = items at (take i cs) (take i ls)
+
+  abbrev items-behind : List Item
+  items-behind = items (at + i + length (part i (suc j) cs)) (drop (suc j) cs) (drop (suc j) ls)
+
+  items-joined : items at cs ls ≡ items-ahead ++ (from-to first-item items-between last-item ++ items-behind)
+  items-joined =
+      let ahead : length (take i cs) ≡ i = length-take-le i cs (omega arith) in
+      let ahead′ : length (take i ls) ≡ i = length-take-le i ls (omega arith) in
+      ap (λ (r : List ℕ). items at r ls) (sym (split-part i (suc j) cs (omega arith)))
+      ∙ ap (items at (take i cs ++ (part i (suc j) cs ++ drop (suc j) cs))) (sym (split-part i (suc j) ls (omega arith)))
+      ∙ items-append at (take i cs) (part i (suc j) cs ++ drop (suc j) cs) (take i ls) (part i (suc j) ls ++ drop (suc j) ls) (ahead ∙ sym ahead′)
+      ∙ ap (λ (k : ℕ). items-ahead ++ items (at + k) (part i (suc j) cs ++ drop (suc j) cs) (part i (suc j) ls ++ drop (suc j) ls)) ahead
+      ∙ ap (λ (r : List Item). items-ahead ++ r)
+      (items-append (at + i) (part i (suc j) cs) (drop (suc j) cs) (part i (suc j) ls) (drop (suc j) ls) same-part
+      ∙ ap (λ (r : List Item). r ++ items-behind) items-of-part)
+
+  pub spanned : Spanned (items at cs ls) (at + i) (at + j) (kept (part i (suc j) cs) (part i (suc j) ls))
+  spanned =
+      record {
+        ahead = items-ahead;
+        between = items-between;
+        behind = items-behind;
+        level-x = getD ls i 0;
+        level-y = getD ls j 0;
+        joined = items-joined;
+        of-levels = levels-from-to;
+      }

@@ -143,6 +143,10 @@ L2-is : (ds : List Item) → L2 ds ≡ passes (highest ds) (lowestOdd (suc (high
 unfolding L2
 L2-is ds = refl
 
+-- L2 keeps every item
+pub count-L2 : (test : Item → Bool) (ds : List Item) → count test (L2 ds) ≡ count test ds
+count-L2 test ds = ap (count test) (L2-is ds) ∙ count-passes test (highest ds) (lowestOdd (suc (highest ds)) ds) ds
+
 -- ds are the items in memory order
 module _ (ds us : List Item) (x : Item) (xs : List Item) (y : Item) (vs : List Item) (joined : ds ≡ us ++ (from-to x xs y ++ vs)) (m : ℕ) (is : m ≡ least (levels (from-to x xs y))) where
   held : 1 ≤ count (isOf m) ds
