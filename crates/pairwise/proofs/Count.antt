@@ -1,57 +1,15 @@
 -- How many items of a list pass a test. No pass of L2 changes that, so a count says of every arrangement which items
 -- it holds and how often.
 -- Assumes nothing.
-use Prim.Native.Nat.{ℕ, zero, suc, _+_, _≤_, _<_}
+use Prim.Native.Nat.{ℕ, zero, suc, _+_}
 use native.Mathlib.Omega.{arith}
 use mathlib.Core.Bool.{Bool, true, false}
-use mathlib.Core.Path.{_≡_, refl, sym, ap, _∙_}
-use mathlib.Core.Logic.{_⊎_, inl, inr}
-use mathlib.Core.List.{List, [], _∷_, _++_, reverseAux, reverse, append-nil}
+use mathlib.Core.Path.{_≡_, ap, _∙_}
+use mathlib.Core.List.{List, [], _∷_, _++_, reverseAux}
 use lib.Dec.{eqb, leb, ltb}
-use borrow.Author.Tests.{le-leb, lt-leb}
-use Rattle.rules.specs.Choice.{if_then_else_}
 use Rattle.rules.specs.Line.{Item, pass, passes}
-use Rattle.rules.proofs.Lists.{le-or-lt}
 use Rattle.rules.proofs.Passes.{by-test}
-
--- a case split on the order of two numbers
-pub by-order : {A : Type 0} (a b : ℕ) → (a ≤ b → A) → (b < a → A) → A
-by-order {A} a b upTo above = go (le-or-lt a b)
-  where
-    go : (a ≤ b) ⊎ (b < a) → A
-    go (inl h) = upTo h
-    go (inr h) = above h
-
--- ---- A pass, by its equations
-
-pub pass-nil : (n : ℕ) (stretch : List Item) → pass n stretch [] ≡ stretch
-unfolding pass
-pass-nil n stretch = refl
-
-pub pass-high : (n : ℕ) (stretch : List Item) (x : Item) (xs : List Item) → leb n (x .level) ≡ true → pass n stretch (x ∷ xs) ≡ pass n (x ∷ stretch) xs
-unfolding pass
-pass-high n stretch x xs e = rw e
-
-pub pass-low : (n : ℕ) (stretch : List Item) (x : Item) (xs : List Item) → leb n (x .level) ≡ false → pass n stretch (x ∷ xs) ≡ stretch ++ (x ∷ pass n [] xs)
-unfolding pass
-pass-low n stretch x xs e = rw e
-
--- no pass where the lowest level is above the highest
-pub passes-none : (h n : ℕ) (xs : List Item) → h < n → passes h n xs ≡ xs
-unfolding passes
-passes-none zero n xs below = refl
-passes-none (suc h) n xs below = rw (lt-leb n (suc h) below)
-
-pub passes-end : (n : ℕ) (xs : List Item) → passes zero n xs ≡ xs
-unfolding passes
-passes-end n xs = refl
-
--- the first pass, and what is left after it
-pub passes-first : (h n : ℕ) (xs : List Item) → n ≤ suc h → passes (suc h) n xs ≡ passes h n (pass (suc h) [] xs)
-unfolding passes
-passes-first h n xs within = rw (le-leb n (suc h) within)
-
--- ---- Counting
+use Rattle.pairwise.proofs.PassLaws.{by-order, pass-nil, pass-high, pass-low, passes-none, passes-end, passes-first}
 
 abbrev pub one : Bool → ℕ
 one true = 1

@@ -1,17 +1,18 @@
 -- The smallest level of some items: none of them is below it, and one of them is of that level.
 -- Assumes nothing.
-use Prim.Native.Nat.{ℕ, zero, suc, _+_, _≤_, _<_, _%_, min, max}
+use Prim.Native.Nat.{ℕ, _≤_, _<_, _%_, min, max}
 use native.Mathlib.Omega.{arith}
-use mathlib.Core.Bool.{Bool, true, false}
-use mathlib.Core.Path.{_≡_, refl, sym, ap, _∙_}
-use mathlib.Core.List.{List, [], _∷_, _++_, map}
-use lib.Dec.{eqb, ltb}
+use mathlib.Core.Bool.{true, false}
+use mathlib.Core.Path.{_≡_, refl, ap}
+use mathlib.Core.List.{List, [], _∷_, map}
+use lib.Dec.{ltb}
 use borrow.Author.Tests.{ltb-false, le-ltb, eq-eqb, eqb-true, eqb-false}
 use Rattle.rules.specs.Choice.{isOdd}
 use Rattle.rules.specs.Line.{Item, highest, lowestOdd}
 use Rattle.rules.proofs.Passes.{by-test}
 use Rattle.pairwise.specs.Demand3.{least}
-use Rattle.pairwise.proofs.Count.{by-order, one, count, isBelow, isOf}
+use Rattle.pairwise.proofs.PassLaws.{by-order}
+use Rattle.pairwise.proofs.Count.{one, count, isBelow, isOf}
 
 abbrev pub levels : List Item → List ℕ
 levels xs = map (λ (x : Item). x .level) xs

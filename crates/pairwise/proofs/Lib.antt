@@ -1,4 +1,5 @@
 -- The proof of demand 3.
+pub mod PassLaws
 pub mod Count
 pub mod Stretches
 pub mod Sides

@@ -1,11 +1,10 @@
 -- The items of a line: each kept position of the line once, with its level, in memory order.
 -- Assumes nothing.
-use Prim.Native.Nat.{ℕ, zero, suc, _+_, _-_, _≤_, _<_}
-use native.Mathlib.Nat.{le-of-suc-le-suc}
+use Prim.Native.Nat.{ℕ, zero, suc, _+_, _≤_, _<_}
 use native.Mathlib.Omega.{arith}
-use mathlib.Core.Bool.{Bool, true, false}
+use mathlib.Core.Bool.{true, false}
 use mathlib.Core.Path.{_≡_, refl, sym, ap, _∙_}
-use mathlib.Core.List.{List, [], _∷_, _++_, map}
+use mathlib.Core.List.{List, [], _∷_, _++_}
 use lib.Dec.{eqb}
 use lib.ListN.{length, getD, take, drop}
 use lib.Seq.{length-take-le}
@@ -63,7 +62,7 @@ items-append at [] ds (l ∷ ls) ms same = absurd (omega arith)
 items-append at (c ∷ cs) ds [] ms same = absurd (omega arith)
 items-append at (c ∷ cs) ds (l ∷ ls) ms same =
     let rest : items (suc at) (cs ++ ds) (ls ++ ms) ≡ items (suc at) cs ls ++ items (at + length (c ∷ cs)) ds ms =
-        items-append (suc at) cs ds ls ms (omega arith) ∙ ap (λ (k : ℕ). items (suc at) cs ls ++ items k ds ms) (omega arith)
+    items-append (suc at) cs ds ls ms (omega arith) ∙ ap (λ (k : ℕ). items (suc at) cs ls ++ items k ds ms) (omega arith)
     in
     by-test (isRemoved c)
     (λ gone. items-removed at c l (cs ++ ds) (ls ++ ms) gone ∙ rest ∙ ap (λ (r : List Item). r ++ items (at + length (c ∷ cs)) ds ms) (sym (items-removed at c l cs ls gone)))

@@ -8,13 +8,14 @@ use mathlib.Core.Bool.{Bool, true, false}
 use mathlib.Core.Path.{_≡_, refl, sym, ap, subst, _∙_}
 use mathlib.Core.Logic.{_⊎_, inl, inr}
 use mathlib.Core.List.{List, [], _∷_, _++_, reverse, append-assoc}
-use lib.Dec.{eqb, ltb}
-use borrow.Author.Tests.{ltb-true, ltb-false, eq-eqb, eqb-true, eqb-false}
+use lib.Dec.{ltb}
+use borrow.Author.Tests.{ltb-true, eq-eqb, eqb-true, eqb-false}
 use Rattle.rules.specs.Choice.{isOdd}
-use Rattle.rules.specs.Line.{Item, pass, passes, highest, lowestOdd, L2}
+use Rattle.rules.specs.Line.{Item, passes, highest, lowestOdd, L2}
 use Rattle.rules.proofs.Passes.{by-test}
 use Rattle.pairwise.specs.Demand3.{least}
-use Rattle.pairwise.proofs.Count.{by-order, passes-none, one, count, standsAt, isBelow, isOf, count-append, count-passes}
+use Rattle.pairwise.proofs.PassLaws.{by-order}
+use Rattle.pairwise.proofs.Count.{one, count, standsAt, isBelow, isOf, count-append, count-passes}
 use Rattle.pairwise.proofs.Stretches.{passes-part, passes-turn, Parted, first-below, Begins, begins, Ends, ends}
 use Rattle.pairwise.proofs.Sides.{Left, Turned, turned-between, turned-reversed}
 use Rattle.pairwise.proofs.Least.{levels, none-below, least-reached, least-found, at-most-highest, lowest-within, lowest-positive, lowest-is-odd, lowest-reached}
@@ -168,9 +169,9 @@ module _ (ds us : List Item) (x : Item) (xs : List Item) (y : Item) (vs : List I
       let not-odd : ¬ (m % 2 ≡ 1) = eqb-false (m % 2) 1 even in
       let n : ℕ = lowestOdd (suc (highest ds)) ds in
       let times : (suc m - n) % 2 ≡ 0 =
-          by-order n m
-          (λ reached. omega (arith, lowest-is-odd (suc (highest ds)) ds (omega (arith, found))))
-          (λ none. omega arith)
+      by-order n m
+      (λ reached. omega (arith, lowest-is-odd (suc (highest ds)) ds (omega (arith, found))))
+      (λ none. omega arith)
       in
       turned-even (suc m - n) (x .position) (y .position) (L2 ds) times (L2-turns n refl)
 

@@ -1,17 +1,15 @@
 -- The places of an order: which position stands at which, told by counts.
 -- Assumes nothing.
 use Prim.Native.Nat.{ℕ, zero, suc, _+_, _≤_, _<_}
-use native.Mathlib.Nat.{le-of-suc-le-suc}
 use native.Mathlib.Omega.{arith}
-use mathlib.Core.Bool.{Bool, true, false}
 use mathlib.Core.Path.{_≡_, refl, sym, ap, subst, _∙_}
 use mathlib.Core.List.{List, [], _∷_, _++_, map, map-append}
 use lib.ListN.{length, getD, length-append, List·getD-append}
 use lib.Seq.{getD-append-add}
 use borrow.Author.Tests.{eq-eqb, eqb-true}
-use Rattle.rules.specs.Line.{Item, L2, passes, highest, lowestOdd}
+use Rattle.rules.specs.Line.{Item}
 use Rattle.rules.proofs.Passes.{by-test}
-use Rattle.pairwise.proofs.Count.{one, count, standsAt, count-passes}
+use Rattle.pairwise.proofs.Count.{one, count, standsAt}
 use Rattle.pairwise.proofs.Sides.{Left}
 
 -- the positions of items, in turn

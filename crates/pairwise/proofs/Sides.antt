@@ -1,10 +1,10 @@
 -- Which of two positions stands to the left in an arrangement of items, and how that fares when more is put to either
 -- side and when the arrangement is reversed.
 -- Assumes nothing.
-use Prim.Native.Nat.{ℕ, zero, suc, _+_, _≤_, _<_}
+use Prim.Native.Nat.{ℕ, zero, suc, _≤_}
 use native.Mathlib.Omega.{arith}
-use mathlib.Core.Path.{_≡_, refl, sym, ap, _∙_}
-use mathlib.Core.List.{List, [], _∷_, _++_, reverse, append-assoc, reverse-append}
+use mathlib.Core.Path.{_≡_, sym, ap, _∙_}
+use mathlib.Core.List.{List, [], _++_, reverse, append-assoc, reverse-append}
 use Rattle.rules.specs.Line.{Item}
 use Rattle.pairwise.proofs.Count.{count, standsAt, count-append, count-reverseAux}
 

@@ -1,17 +1,18 @@
 -- What the passes do to a list of items: an item below the lowest level of the passes parts what stands before it from
 -- what stands behind it, and a list with no such item is reversed whole by the last pass.
 -- Assumes nothing.
-use Prim.Native.Nat.{ℕ, zero, suc, _+_, _≤_, _<_}
+use Prim.Native.Nat.{ℕ, zero, suc, _≤_, _<_}
 use native.Mathlib.Omega.{arith}
-use mathlib.Core.Bool.{Bool, true, false}
+use mathlib.Core.Bool.{true, false}
 use mathlib.Core.Path.{_≡_, refl, sym, ap, _∙_}
 use mathlib.Core.Logic.{_⊎_, inl, inr}
 use mathlib.Core.List.{List, [], _∷_, _++_, reverseAux, reverse, append-nil, append-assoc}
 use lib.Dec.{leb, ltb}
-use borrow.Author.Tests.{le-leb, lt-leb, leb-true, leb-false, ltb-true, ltb-false, lt-ltb, le-ltb}
+use borrow.Author.Tests.{le-leb, lt-leb, ltb-true, ltb-false}
 use Rattle.rules.specs.Line.{Item, pass, passes}
 use Rattle.rules.proofs.Passes.{by-test}
-use Rattle.pairwise.proofs.Count.{by-order, pass-nil, pass-high, pass-low, passes-none, passes-end, passes-first, one, count, isBelow, count-append, count-passes}
+use Rattle.pairwise.proofs.PassLaws.{by-order, pass-nil, pass-high, pass-low, passes-none, passes-end, passes-first}
+use Rattle.pairwise.proofs.Count.{one, count, isBelow, count-passes}
 
 -- ---- An item below the level of a pass parts the list
 

@@ -1,12 +1,12 @@
 -- Demand 3 holds of every line: what L2 makes of a line's items displays each kept position once and no other, and of
 -- two the earlier to the left exactly where the smallest level from one to the other is even.
 -- Assumes nothing.
-use Prim.Native.Nat.{ℕ, zero, suc, _+_, _-_, _≤_, _<_}
+use Prim.Native.Nat.{ℕ, suc, _+_, _-_, _≤_, _<_}
 use native.Mathlib.Omega.{arith}
-use mathlib.Core.Bool.{Bool, true, false}
+use mathlib.Core.Bool.{true, false}
 use mathlib.Core.Path.{_≡_, refl, sym, ap, subst₂, _∙_}
 use mathlib.Core.Logic.{_↔_}
-use mathlib.Core.List.{List, [], _∷_, _++_, map}
+use mathlib.Core.List.{List, [], _∷_}
 use lib.ListN.{length, getD}
 use Rattle.rules.specs.Choice.{isOdd}
 use Rattle.rules.specs.Classes.{isRemoved}
@@ -21,10 +21,6 @@ use Rattle.pairwise.proofs.Pairs.{from-to, count-L2, even-left, odd-rig
 use Rattle.pairwise.proofs.Places.{places, At, counted, place, one-place, left-is-lower}
 use Rattle.pairwise.proofs.Parts.{length-part, getD-part, part-part}
 use Rattle.pairwise.proofs.LineItems.{kept-counted, counted-once, counted-kept, item, Spanned, spanned}
-
-between-is : (cs ls : List ℕ) (from x y : ℕ) → leastBetween cs ls from x y ≡ least (kept (part x (suc y) cs) (part (x - from) (suc y - from) ls))
-unfolding leastBetween
-between-is cs ls from x y = refl
 
 -- the levels of a line may be any
 module _ (cs ls : List ℕ) (from to : ℕ) (up : from ≤ to) (within : to ≤ length cs) (long : length ls ≡ to - from) where
@@ -70,12 +66,12 @@ module _ (cs ls : List ℕ) (from to : ℕ) (up : from ≤ to) (within : to ≤ 
   -- two kept positions
   module _ (x y : ℕ) (on-x : OnLine cs from to x) (on-y : OnLine cs from to y) (less : x < y) where
     between : leastBetween cs ls from x y ≡ least (kept (part (x - from) (suc (y - from)) classes) (part (x - from) (suc (y - from)) ls))
+    unfolding leastBetween
     between =
         let at-x : x ≡ from + (x - from) = omega arith in
         let at-y : suc y ≡ from + suc (y - from) = omega arith in
         let past-y : suc y - from ≡ suc (y - from) = omega arith in
-        between-is cs ls from x y
-        ∙ ap (λ (k : ℕ). least (kept (part x (suc y) cs) (part (x - from) k ls))) past-y
+        ap (λ (k : ℕ). least (kept (part x (suc y) cs) (part (x - from) k ls))) past-y
         ∙ ap (λ (r : List ℕ). least (kept r (part (x - from) (suc (y - from)) ls)))
         (ap (λ (k : ℕ). part k (suc y) cs) at-x
         ∙ ap (λ (k : ℕ). part (from + (x - from)) k cs) at-y
@@ -101,12 +97,13 @@ module _ (cs ls : List ℕ) (from to : ℕ) (up : from ≤ to) (within : to ≤ 
     odd-last odd = odd-right (items from classes ls) (span .ahead) (item x (span .level-x)) (span .between) (item y (span .level-y)) (span .behind) (span .joined) (leastBetween cs ls from x y) smallest odd
 
     sides : (p q : ℕ) → At (places arranged) x p → At (places arranged) y q → (p < q) ↔ (isOdd (leastBetween cs ls from x y) ≡ false)
-    sides p q at-p at-q =
-        (λ left.
-        by-test (isOdd (leastBetween cs ls from x y))
-        (λ odd. absurd (omega (arith, left-is-lower y x arranged (single y) (single x) (odd-last odd) q p at-q at-p)))
-        (λ even. even),
-        λ even. left-is-lower x y arranged (single x) (single y) (even-first even) p q at-p at-q)
+    sides p q at-p at-q = (
+      λ left.
+          by-test (isOdd (leastBetween cs ls from x y))
+          (λ odd. absurd (omega (arith, left-is-lower y x arranged (single y) (single x) (odd-last odd) q p at-q at-p)))
+          (λ even. even),
+      λ even. left-is-lower x y arranged (single x) (single y) (even-first even) p q at-p at-q,
+    )
 
   shows-only : (p : ℕ) → p < length (places arranged) → OnLine cs from to (getD (places arranged) p 0)
   shows-only p there = on-line (getD (places arranged) p 0) (counted (getD (places arranged) p 0) arranged p (there, refl))
