@@ -1,4 +1,4 @@
--- The proof of demand 3.
+-- Demand 3 proved, `demand3` of Theorem, and that it leaves one order only, `only-order` of Settled.
 pub mod PassLaws
 pub mod Count
 pub mod Stretches
@@ -9,3 +9,4 @@ pub mod Places
 pub mod Parts
 pub mod LineItems
 pub mod Theorem
+pub mod Settled

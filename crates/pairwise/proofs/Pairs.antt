@@ -49,6 +49,7 @@ module _ (h n : ℕ) (xs : List Item) (b : Item) (ys : List Item) (low : b .leve
         second = omega (arith, count-passes (standsAt y) h n ys);
       }
 
+-- an item below the passes among those from x to y: at x, at y, or between them
 module _ (h n : ℕ) (us : List Item) (x : Item) (xs : List Item) (y : Item) (vs : List Item) where
   x-low : x .level < n → Left (x .position) (y .position) (passes h n (us ++ (from-to x xs y ++ vs)))
   x-low low =

@@ -22,7 +22,7 @@ use Rattle.pairwise.proofs.Places.{places, At, counted, place, one-plac
 use Rattle.pairwise.proofs.Parts.{length-part, getD-part, part-part}
 use Rattle.pairwise.proofs.LineItems.{kept-counted, counted-once, counted-kept, item, Spanned, spanned}
 
--- the levels of a line may be any
+-- a line with any levels, one for each of its positions
 module _ (cs ls : List ℕ) (from to : ℕ) (up : from ≤ to) (within : to ≤ length cs) (long : length ls ≡ to - from) where
   abbrev classes : List ℕ
   classes = part from to cs
@@ -65,7 +65,10 @@ module _ (cs ls : List ℕ) (from to : ℕ) (up : from ≤ to) (within : to ≤ 
 
   -- two kept positions
   module _ (x y : ℕ) (on-x : OnLine cs from to x) (on-y : OnLine cs from to y) (less : x < y) where
-    between : leastBetween cs ls from x y ≡ least (kept (part (x - from) (suc (y - from)) classes) (part (x - from) (suc (y - from)) ls))
+    abbrev levels-between : List ℕ
+    levels-between = kept (part (x - from) (suc (y - from)) classes) (part (x - from) (suc (y - from)) ls)
+
+    between : leastBetween cs ls from x y ≡ least levels-between
     unfolding leastBetween
     between =
         let at-x : x ≡ from + (x - from) = omega arith in
@@ -76,9 +79,6 @@ module _ (cs ls : List ℕ) (from to : ℕ) (up : from ≤ to) (within : to ≤ 
         (ap (λ (k : ℕ). part k (suc y) cs) at-x
         ∙ ap (λ (k : ℕ). part (from + (x - from)) k cs) at-y
         ∙ sym (part-part from to (x - from) (suc (y - from)) cs (omega arith) (inside y on-y)))
-
-    abbrev levels-between : List ℕ
-    levels-between = kept (part (x - from) (suc (y - from)) classes) (part (x - from) (suc (y - from)) ls)
 
     span : Spanned (items from classes ls) x y levels-between
     span =
@@ -119,18 +119,11 @@ module _ (cs ls : List ℕ) (from to : ℕ) (up : from ≤ to) (within : to ≤ 
 
 -- ---- The line's own levels
 
-L1-cons : (base c l : ℕ) (cs ls : List ℕ) → length (L1 base (c ∷ cs) (l ∷ ls)) ≡ suc (length (L1 base cs ls))
-unfolding L1
-L1-cons base c l cs ls = refl
-
-L1-nil : (base : ℕ) (ls : List ℕ) → length (L1 base [] ls) ≡ 0
-unfolding L1
-L1-nil base ls = refl
-
 length-L1 : (base : ℕ) (cs ls : List ℕ) → length cs ≡ length ls → length (L1 base cs ls) ≡ length cs
-length-L1 base [] ls same = L1-nil base ls
+unfolding L1
+length-L1 base [] ls same = refl
 length-L1 base (c ∷ cs) [] same = absurd (omega arith)
-length-L1 base (c ∷ cs) (l ∷ ls) same = L1-cons base c l cs ls ∙ ap suc (length-L1 base cs ls (omega arith))
+length-L1 base (c ∷ cs) (l ∷ ls) same = ap suc (length-L1 base cs ls (omega arith))
 
 pub demand3 : (base : ℕ) (cs ls : List ℕ) (from to : ℕ) → from ≤ to → to ≤ length cs → length cs ≤ length ls → Displayed cs (lineLevels base cs ls from to) (lineOrder base cs ls from to) from to
 unfolding lineLevels lineOrder

@@ -12,7 +12,7 @@ use Rattle.rules.specs.Classes.{isRemoved}
 use Rattle.rules.specs.Explicit.{kept}
 use Rattle.rules.specs.Line.{part}
 
--- the smallest of a list that is not empty
+-- the smallest of a list that is not empty, and 0 where there is none
 unfoldable pub least : List ℕ → ℕ
 least [] = 0
 least (x ∷ []) = x
