@@ -7,4 +7,3 @@ pub mod TurnLaws
 pub mod PassLaws
 pub mod ItemLaws
 pub mod LineLaws
-pub mod Mirror

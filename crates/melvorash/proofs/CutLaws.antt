@@ -15,6 +15,7 @@ use Rattle.rules.specs.Paragraph.{P1}
 use Rattle.rules.specs.Refusals.{Check, sound, refuse, _then_, isEmpty, checkSome, walk, checksOfCut}
 use Rattle.rules.specs.Jobs.{Answer, accepted, refused, answered, whereSound, cutAnswer, cutPart}
 use Rattle.rules.proofs.Lists.{drop-next}
+use Rattle.melvorash.proofs.JobLaws.{accepted-value, never-both}
 
 -- ---- the definitions' equations
 walk-one : (room at c : ℕ) (cs : List ℕ) → walk (suc room) at (c ∷ cs) ≡ (if isUnknown c then refuse 2 at else if isParagraphEnd c then sound else walk room (suc at) cs)
@@ -113,12 +114,6 @@ P1-within (c ∷ cs) = by (isParagraphEnd c) refl (P1-within cs)
 pub record Part (cs : List ℕ) (n : ℕ) : Type 0 where
   pub within : n ≤ length cs
   pub part : take n cs ≡ cutPart cs
-
-accepted-value : {m n : ℕ} → accepted m ≡ accepted n → m ≡ n
-accepted-value e = cc
-
-never-both : {n number place : ℕ} → accepted n ≡ refused number place → ⊥
-never-both e = let z : _≡_ {A = ℕ} 0 1 = cc in omega arith
 
 pub part-accepted : (cs : List ℕ) (n : ℕ) → accepted n ≡ cutAnswer cs → Part cs n
 unfolding cutAnswer cutPart

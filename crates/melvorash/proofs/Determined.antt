@@ -3,10 +3,10 @@
 use Prim.Native.Nat.{ℕ}
 use mathlib.Core.Path.{_≡_, refl, sym, ap, _∙_}
 use mathlib.Core.List.{List}
-use Rattle.rules.specs.Jobs.{Answer, accepted, refused, cutAnswer, cutPart, baseAnswer, levelsAnswer, explicitBuffer, resolveBuffer, lineAnswer, lineBuffer, linesAnswer, linesBuffer}
+use Rattle.rules.specs.Jobs.{Answer, accepted, refused, cutAnswer, cutPart, baseAnswer, levelsAnswer, explicitBuffer, resolveBuffer}
 use Rattle.refusals.specs.Page.{numberOf, placeOf}
 use Rattle.refusals.proofs.PageLaws.{refusalWith, refusal-told}
-use Rattle.melvorash.specs.Answers.{cutPage, basePage, orderPage, Answers, Leaves}
+use Rattle.melvorash.specs.Answers.{cutPage, basePage, orderPage, Answers, Leaves, OrdersLine, OrdersLines}
 use Rattle.melvorash.specs.declared.answers.CutAnswer.{CutAnswer}
 use Rattle.melvorash.specs.declared.answers.CutAnswer.the-variants as Cutting
 use Rattle.melvorash.specs.declared.answers.BaseAnswer.{BaseAnswer}
@@ -64,8 +64,8 @@ explicit-determined cs request levels p q = leaves-determined basePage baseBack 
 pub resolve-determined : (cs : List ℕ) (request : ℕ) (levels : List ℕ) {r s : BaseAnswer} {x y : List ℕ} → Leaves basePage (levelsAnswer cs request levels) (resolveBuffer cs request levels) r x → Leaves basePage (levelsAnswer cs request levels) (resolveBuffer cs request levels) s y → (r ≡ s) × (x ≡ y)
 resolve-determined cs request levels p q = leaves-determined basePage baseBack base-reads p q
 
-pub order-line-determined : (cs levels : List ℕ) (base from to : ℕ) (order : List ℕ) {r s : OrderAnswer} {x y : List ℕ} → Leaves orderPage (lineAnswer cs levels base from to order) (lineBuffer cs levels base from to order) r x → Leaves orderPage (lineAnswer cs levels base from to order) (lineBuffer cs levels base from to order) s y → (r ≡ s) × (x ≡ y)
-order-line-determined cs levels base from to order p q = leaves-determined orderPage orderBack order-reads p q
+pub order-line-determined : (cs levels : List ℕ) (base from to : ℕ) (order : List ℕ) {r s : OrderAnswer} {x y : List ℕ} → OrdersLine cs levels base from to order r x → OrdersLine cs levels base from to order s y → (r ≡ s) × (x ≡ y)
+order-line-determined cs levels base from to order p q = leaves-determined orderPage orderBack order-reads (p .leaves) (q .leaves)
 
-pub order-lines-determined : (cs levels : List ℕ) (base : ℕ) (ends order : List ℕ) {r s : OrderAnswer} {x y : List ℕ} → Leaves orderPage (linesAnswer cs levels base ends order) (linesBuffer cs levels base ends order) r x → Leaves orderPage (linesAnswer cs levels base ends order) (linesBuffer cs levels base ends order) s y → (r ≡ s) × (x ≡ y)
-order-lines-determined cs levels base ends order p q = leaves-determined orderPage orderBack order-reads p q
+pub order-lines-determined : (cs levels : List ℕ) (base : ℕ) (ends order : List ℕ) {r s : OrderAnswer} {x y : List ℕ} → OrdersLines cs levels base ends order r x → OrdersLines cs levels base ends order s y → (r ≡ s) × (x ≡ y)
+order-lines-determined cs levels base ends order p q = leaves-determined orderPage orderBack order-reads (p .leaves) (q .leaves)

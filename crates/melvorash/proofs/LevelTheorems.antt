@@ -21,19 +21,9 @@ use Rattle.paragraph.proofs.BaseLaws.{baseOf-small}
 use Rattle.explicit.proofs.ExplicitLaws.{length-levels, explicit-at-most-61}
 use Rattle.resolve.proofs.BoundLaws.{AtMost, at-most-all, resolved-accepted}
 use Rattle.resolve.proofs.WholeLaws.{length-resolved}
+use Rattle.melvorash.proofs.JobLaws.{accepted-sound, never-both}
 use Rattle.melvorash.specs.Answers.{basePage, Leaves}
 use Rattle.melvorash.specs.declared.answers.BaseAnswer.{BaseAnswer}
-
--- ---- an accepted answer is its value, and all checks found nothing wrong
-value-of : {m n : ℕ} → accepted m ≡ accepted n → m ≡ n
-value-of e = cc
-
-never : {n number place : ℕ} → refused number place ≡ accepted n → ⊥
-never e = let z : _≡_ {A = ℕ} 0 1 = cc in omega arith
-
-accepted-sound : (check : Check) (value n : ℕ) → answered check value ≡ accepted n → (check ≡ sound) × (value ≡ n)
-accepted-sound sound value n e = (refl, value-of e)
-accepted-sound (refuse number place) value n e = absurd (never e)
 
 -- ---- kept positions of a written buffer
 kept-over : (cs xs rest : List ℕ) → length xs ≡ length cs → kept cs (xs ++ rest) ≡ kept cs xs
@@ -112,13 +102,10 @@ module _ (cs : List ℕ) (request : ℕ) (levels : List ℕ) (r : BaseAnswer) (a
 refused-number : {m n p q : ℕ} → refused m p ≡ refused n q → m ≡ n
 refused-number e = cc
 
-never-accepted : {n number place : ℕ} → accepted n ≡ refused number place → ⊥
-never-accepted e = let z : _≡_ {A = ℕ} 0 1 = cc in omega arith
-
 two-tests : (b d : Bool) (m n value number place : ℕ) → answered (refuseWhere b m then refuseWhere d n) value ≡ refused number place → (number ≡ m) ⊎ (number ≡ n)
 two-tests true d m n value number place e = inl (sym (refused-number e))
 two-tests false true m n value number place e = inr (sym (refused-number e))
-two-tests false false m n value number place e = absurd (never-accepted e)
+two-tests false false m n value number place e = absurd (never-both e)
 
 -- neither 5 nor 7: 8 or 9 for one line, 10 or 9 for all lines
 pub line-refusals : (cs levels : List ℕ) (base from to : ℕ) (order : List ℕ) (number place : ℕ) → checksOfOrder cs levels base ≡ sound → lineAnswer cs levels base from to order ≡ refused number place → (number ≡ 8) ⊎ (number ≡ 9)

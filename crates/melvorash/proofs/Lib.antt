@@ -1,5 +1,7 @@
+-- Laws and theorems on the jobs that belong to no one function.
+pub mod JobLaws
 pub mod CutLaws
 pub mod CutTheorems
-pub mod JobLaws
-pub mod Determined
+pub mod OrderLaws
 pub mod LevelTheorems
+pub mod Determined

@@ -2,7 +2,10 @@
 use Prim.Native.Nat.{ℕ}
 use mathlib.Core.Path.{_≡_}
 use mathlib.Core.List.{List}
-use Rattle.rules.specs.Jobs.{Answer, accepted, refused}
+use lib.ListN.{take}
+use Rattle.rules.specs.Line.{lineLevels}
+use Rattle.rules.specs.Jobs.{Answer, accepted, refused, lineAnswer, lineBuffer, linesAnswer, linesBuffer}
+use Rattle.pairwise.specs.Demand3.{Displayed, EachDisplayed}
 use Rattle.refusals.specs.Page.{numberOf, placeOf}
 use Rattle.melvorash.specs.declared.answers.CutAnswer.{CutAnswer}
 use Rattle.melvorash.specs.declared.answers.CutAnswer.the-variants as Cutting
@@ -32,3 +35,13 @@ pub record Answers {R : Type 0} (page : R → Answer) (wanted : Answer) (r : R) 
 pub record Leaves {R : Type 0} (page : R → Answer) (wanted : Answer) (left : List ℕ) (r : R) (after : List ℕ) : Type 0 where
   pub answer : page r ≡ wanted
   pub buffer : after ≡ left
+
+-- Order of one line: also, where it accepts, what it wrote displays the line as demand 3 has it
+pub record OrdersLine (cs levels : List ℕ) (base from to : ℕ) (order : List ℕ) (r : OrderAnswer) (after : List ℕ) : Type 0 where
+  pub leaves : Leaves orderPage (lineAnswer cs levels base from to order) (lineBuffer cs levels base from to order) r after
+  pub display : (k : ℕ) → orderPage r ≡ accepted k → Displayed cs (lineLevels base cs levels from to) (take k after) from to
+
+-- Order of all lines: the same for each line in turn
+pub record OrdersLines (cs levels : List ℕ) (base : ℕ) (ends order : List ℕ) (r : OrderAnswer) (after : List ℕ) : Type 0 where
+  pub leaves : Leaves orderPage (linesAnswer cs levels base ends order) (linesBuffer cs levels base ends order) r after
+  pub display : (k : ℕ) → orderPage r ≡ accepted k → EachDisplayed base cs levels 0 ends (take k after)

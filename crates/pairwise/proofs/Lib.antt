@@ -10,3 +10,4 @@ pub mod Parts
 pub mod LineItems
 pub mod Theorem
 pub mod Settled
+pub mod Lines

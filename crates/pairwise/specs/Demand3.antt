@@ -6,11 +6,11 @@ use mathlib.Core.Path.{_≡_}
 use mathlib.Core.Logic.{_↔_}
 use mathlib.Core.Bool.{false}
 use mathlib.Core.List.{List, [], _∷_}
-use lib.ListN.{length, getD}
+use lib.ListN.{length, getD, take, drop}
 use Rattle.rules.specs.Choice.{isOdd}
 use Rattle.rules.specs.Classes.{isRemoved}
 use Rattle.rules.specs.Explicit.{kept}
-use Rattle.rules.specs.Line.{part}
+use Rattle.rules.specs.Line.{part, lineLevels}
 
 -- the smallest of a list that is not empty, and 0 where there is none
 unfoldable pub least : List ℕ → ℕ
@@ -34,3 +34,9 @@ pub record Displayed (cs levels order : List ℕ) (from to : ℕ) : Type 0 where
   pub once : (p q : ℕ) → p < length order → q < length order → getD order p 0 ≡ getD order q 0 → p ≡ q
   pub only : (p : ℕ) → p < length order → OnLine cs from to (getD order p 0)
   pub pairs : (p q : ℕ) → p < length order → q < length order → getD order p 0 < getD order q 0 → (p < q) ↔ (isOdd (leastBetween cs levels from (getD order p 0) (getD order q 0)) ≡ false)
+
+-- `order` is the orders of the lines with the given ends, one after the other, and each displays its line
+abbrev pub EachDisplayed : ℕ → List ℕ → List ℕ → ℕ → List ℕ → List ℕ → Type 0
+EachDisplayed base cs ls from [] order = order ≡ []
+EachDisplayed base cs ls from (to ∷ ends) order =
+    (n : ℕ) × Displayed cs (lineLevels base cs ls from to) (take n order) from to × EachDisplayed base cs ls to ends (drop n order)

@@ -1,3 +1,4 @@
+use Rattle.melvorash.proofs.OrderLaws.{orders-line}
 use mathlib.Core.Path.{_≡_, sym, ap, _∙_}
 use native.Mathlib.Omega.{arith}
 use Rattle.rules.specs.Jobs.{lineAnswer, lineBuffer}
@@ -35,7 +36,7 @@ returns : tie.Need-returns
 unfolding lineAnswer lineBuffer
 returns c =
     let e = sym (c .before .before .before .check-line .ensures) ∙ ap checkOf (c .before .checked .given .1) in
-    record { answer = answer-refused _ e; buffer = left-refused _ _ e }
+    orders-line _ _ _ _ _ _ _ _ (record { answer = answer-refused _ e; buffer = left-refused _ _ e })
 
 -- src/order.rt:9:1
 same-length : tie.Need-same-length
@@ -46,7 +47,7 @@ returns-2 : tie.Need-returns-2
 unfolding lineAnswer lineBuffer
 returns-2 c =
     let e = sym (c .before .before .before .before .before .before .check-line .ensures) ∙ ap checkOf (c .before .before .before .before .enum-told .given .1) in
-    record { answer = answer-sound e (c .before .before .order-line .ensures .count); buffer = left-sound _ e (c .before .before .order-line .ensures .placed) }
+    orders-line _ _ _ _ _ _ _ _ (record { answer = answer-sound e (c .before .before .order-line .ensures .count); buffer = left-sound _ e (c .before .before .order-line .ensures .order) })
 
 pub order-line-spec : {M : Type 1} → statement M
 order-line-spec =

@@ -1,3 +1,4 @@
+use Rattle.melvorash.proofs.OrderLaws.{orders-lines}
 use mathlib.Core.Path.{_≡_, sym, ap, _∙_}
 use native.Mathlib.Omega.{arith}
 use Rattle.rules.specs.Jobs.{linesAnswer, linesBuffer}
@@ -35,7 +36,7 @@ returns : tie.Need-returns
 unfolding linesAnswer linesBuffer
 returns c =
     let e = sym (c .before .before .before .check-lines .ensures) ∙ ap checkOf (c .before .checked .given .1) in
-    record { answer = answer-refused _ e; buffer = left-refused _ _ e }
+    orders-lines _ _ _ _ _ _ _ (record { answer = answer-refused _ e; buffer = left-refused _ _ e })
 
 -- src/order.rt:30:1
 same-length : tie.Need-same-length
@@ -46,7 +47,7 @@ returns-2 : tie.Need-returns-2
 unfolding linesAnswer linesBuffer
 returns-2 c =
     let e = sym (c .before .before .before .before .before .before .check-lines .ensures) ∙ ap checkOf (c .before .before .before .before .enum-told .given .1) in
-    record { answer = answer-sound e (c .before .before .order-lines .ensures .count); buffer = left-sound _ e (c .before .before .order-lines .ensures .placed) }
+    orders-lines _ _ _ _ _ _ _ (record { answer = answer-sound e (c .before .before .order-lines .ensures .count); buffer = left-sound _ e (c .before .before .order-lines .ensures .order) })
 
 pub order-lines-spec : {M : Type 1} → statement M
 order-lines-spec =
