@@ -9,8 +9,8 @@ use borrow.Author.Tests.{leb-true}
 use lib.Dec.{eqb, leb}
 use lib.ListN.{length, getD}
 use Rattle.rules.specs.Choice.{if_then_else_}
-use Rattle.rules.specs.Classes.{PDF, isOpening, isRemoved, isParagraphEnd}
-use Rattle.rules.specs.Explicit.{State, Entry, valid, invalid, Verdict, opensValid, opensInvalid, closesValid, closesInvalid, closesNothing, plain, X1, levelAsked, overrideAsked, opening, closing, verdict, after, step, levelHere, typeHere, explicitLevels, explicitTypes, kept}
+use Rattle.rules.specs.Classes.{L, R, LRE, LRO, RLE, RLO, PDF, isRemoved, isParagraphEnd}
+use Rattle.rules.specs.Explicit.{State, Entry, valid, invalid, Verdict, opensValid, opensInvalid, closesValid, closesInvalid, closesNothing, plain, neutral, X1, leastGreaterOdd, leastGreaterEven, opening, closing, X2, X3, X4, X5, X7, verdict, after, step, X6level, levelHere, typeHere, explicitLevels, explicitTypes, kept}
 
 -- equations
 
@@ -128,10 +128,13 @@ if-lawful true v w p q = p
 if-lawful false v w p q = q
 
 verdict-lawful : (s : State) (c : ℕ) → Low s → Lawful (verdict s c)
-unfolding verdict
+unfolding verdict X2 X3 X4 X5 X7
 verdict-lawful s c h =
-    if-lawful (isOpening c) _ _ (opening-lawful (levelAsked c (s .level)) (overrideAsked c))
-    (if-lawful (eqb c PDF) _ _ (closing-lawful (s .unmatched) (h .entries)) tt)
+    if-lawful (eqb c RLE) _ _ (opening-lawful (leastGreaterOdd (s .level)) neutral)
+    (if-lawful (eqb c LRE) _ _ (opening-lawful (leastGreaterEven (s .level)) neutral)
+    (if-lawful (eqb c RLO) _ _ (opening-lawful (leastGreaterOdd (s .level)) R)
+    (if-lawful (eqb c LRO) _ _ (opening-lawful (leastGreaterEven (s .level)) L)
+    (if-lawful (eqb c PDF) _ _ (closing-lawful (s .unmatched) (h .entries)) tt))))
 
 after-low : (s : State) (v : Verdict) → Low s → Lawful v → Low (after s v)
 unfolding after
@@ -155,7 +158,7 @@ if-low true h k = h
 if-low false h k = k
 
 here-low : (base : ℕ) (s : State) (c : ℕ) → base ≤ 61 → Low s → isRemoved c ≡ false → levelHere base s c ≤ 61
-unfolding levelHere
+unfolding levelHere X6level
 here-low base s c b h e = rw e (if-low (isParagraphEnd c) b (h .level))
 
 pub kept-levels-low : (base : ℕ) (s : State) (cs : List ℕ) → base ≤ 61 → Low s → (i : ℕ)

@@ -6,19 +6,20 @@ use mathlib.Core.Path.{_≡_, refl, sym, ap, subst, _∙_}
 use mathlib.Core.Logic.{_⊎_, inl, inr}
 use mathlib.Core.List.{List, _∷_, _++_, tail}
 use mathlib.Core.Bool.{Bool, true, false, _||_}
-use borrow.Author.Tests.{eq-eqb, ne-eqb, le-leb, lt-leb}
+use borrow.Author.Tests.{eqb-true, eq-eqb, ne-eqb, le-leb, lt-leb}
 use lib.Dec.{eqb}
 use lib.ListN.{getD, set, replicate, length-set}
 use lib.Seq.{getD-set-same, getD-set-other}
 use Rattle.rules.proofs.Lists.{le-or-lt}
-use Rattle.rules.specs.Explicit.{State, Entry, valid, invalid, neutral, X1, after, opensValid, opensInvalid, closesValid, closesInvalid, closing, opening, plain, levelAsked, leastGreaterOdd, leastGreaterEven, overrideAsked, verdict, step}
-use Rattle.rules.specs.Classes.{PDF, RLE, RLO, isOpening}
+use Rattle.rules.specs.Explicit.{State, Entry, valid, invalid, neutral, X1, after, opensValid, opensInvalid, closesValid, closesInvalid, closing, opening, plain, leastGreaterOdd, leastGreaterEven, X2, X3, X4, X5, X7, verdict, step}
+use Rattle.rules.proofs.Passes.{by-test}
+use Rattle.rules.specs.Classes.{LRE, LRO, PDF, RLE, RLO, isOpening}
 use Rattle.rules.specs.Choice.{if_then_else_, isOdd}
 use Rattle.rules.specs.Explicit as rules
 use Rattle.explicit.specs.declared.machine.Machine.{Machine}
 use Rattle.explicit.specs.declared.machine.Verdict.{Verdict}
 use Rattle.explicit.specs.declared.machine.Verdict.the-variants.{OpensValid, OpensInvalid, ClosesValid, ClosesInvalid, ClosesNothing}
-use Rattle.explicit.specs.Meaning.{invalidAt, remembered, rememberedBy, invalidHere, meaning, verdictOf, Shown, Falls, none, more, Only61, Only60, Sound, counts, Stands, Recounted, Judged}
+use Rattle.explicit.specs.Meaning.{levelAsked, overrideAsked, invalidAt, remembered, rememberedBy, invalidHere, meaning, verdictOf, Shown, Falls, none, more, Only61, Only60, Sound, counts, Stands, Recounted, Judged}
 
 -- the invalid codes at a level
 
@@ -387,17 +388,27 @@ module _ (m : Machine) (c : ℕ) where
 
 -- the verdict on a class
 
+verdict-is : (s : State) (c : ℕ) → verdict s c ≡ (if isOpening c then opening (levelAsked c (s .level)) (overrideAsked c) else if eqb c PDF then closing (s .unmatched) else plain)
+unfolding verdict X2 X3 X4 X5 X7 isOpening levelAsked overrideAsked
+verdict-is s c =
+    by-test (eqb c RLE)
+    (λ e. rw (eqb-true c RLE e))
+    (λ e. by-test (eqb c LRE)
+    (λ f. rw (eqb-true c LRE f))
+    (λ f. by-test (eqb c RLO)
+    (λ g. rw (eqb-true c RLO g))
+    (λ g. by-test (eqb c LRO)
+    (λ h. rw (eqb-true c LRO h))
+    (λ h. rw (e, f, g, h)))))
+
 pub verdict-opens : (s : State) (c : ℕ) → isOpening c ≡ true → verdict s c ≡ opening (levelAsked c (s .level)) (overrideAsked c)
-unfolding verdict
-verdict-opens s c e = rw e
+verdict-opens s c e = verdict-is s c ∙ rw e
 
 pub verdict-closes : (s : State) (c : ℕ) → isOpening c ≡ false → c ≡ PDF → verdict s c ≡ closing (s .unmatched)
-unfolding verdict
-verdict-closes s c e p = rw (e, eq-eqb c PDF p)
+verdict-closes s c e p = verdict-is s c ∙ rw (e, eq-eqb c PDF p)
 
 pub verdict-plain : (s : State) (c : ℕ) → isOpening c ≡ false → (c ≡ PDF → ⊥) → verdict s c ≡ plain
-unfolding verdict
-verdict-plain s c e p = rw (e, ne-eqb c PDF p)
+verdict-plain s c e p = verdict-is s c ∙ rw (e, ne-eqb c PDF p)
 
 -- a verdict followed is a step taken
 

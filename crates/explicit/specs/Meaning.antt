@@ -5,12 +5,21 @@ use mathlib.Core.Logic.{_⊎_}
 use mathlib.Core.List.{List, [], _∷_, _++_}
 use lib.Dec.{eqb}
 use lib.ListN.{length, getD, replicate}
+use mathlib.Core.Bool.{_||_}
 use Rattle.rules.specs.Choice.{if_then_else_}
-use Rattle.rules.specs.Explicit.{State, Entry, valid, invalid, highestExplicit, opensValid, opensInvalid, closesValid, closesInvalid, closesNothing, plain}
+use Rattle.rules.specs.Classes.{L, R, LRO, RLE, RLO}
+use Rattle.rules.specs.Explicit.{State, Entry, valid, invalid, highestExplicit, neutral, leastGreaterOdd, leastGreaterEven, opensValid, opensInvalid, closesValid, closesInvalid, closesNothing, plain}
 use Rattle.rules.specs.Explicit as rules
 use Rattle.explicit.specs.declared.machine.Machine.{Machine}
 use Rattle.explicit.specs.declared.machine.Verdict.{Verdict}
 use Rattle.explicit.specs.declared.machine.Verdict.the-variants.{OpensValid, OpensInvalid, ClosesValid, ClosesInvalid, ClosesNothing, Plain}
+
+-- the level that a code asks for, and the override: X2 to X5 in one, as the code computes them
+unfoldable pub levelAsked : ℕ → ℕ → ℕ
+levelAsked c l = if eqb c RLE || eqb c RLO then leastGreaterOdd l else leastGreaterEven l
+
+unfoldable pub overrideAsked : ℕ → ℕ
+overrideAsked c = if eqb c RLO then R else if eqb c LRO then L else neutral
 
 -- how many invalid codes are unmatched at a level, where n60 are at 60 and n61 at 61: at no other can there be any
 unfoldable pub invalidAt : ℕ → ℕ → ℕ → ℕ

@@ -1,9 +1,9 @@
 // The machine of rules X1 to X9: a state by value, which takes one class and hands back the next state.
 ghost use mathlib.Core.Path.{_≡_};
 ghost use Prim.Native.Nat.{_≤_, _<_, _+_, _^_};
-ghost use Rattle.rules.specs.Explicit.{X1, leastGreaterOdd, leastGreaterEven, levelAsked, overrideAsked, opening, closing, verdict, after, step, levelHere, typeHere};
+ghost use Rattle.rules.specs.Explicit.{X1, leastGreaterOdd, leastGreaterEven, opening, closing, verdict, after, step, levelHere, typeHere};
 ghost use Rattle.rules.specs.Explicit as rules;
-ghost use Rattle.explicit.specs.Meaning.{meaning, invalidHere, Sound, counts, Stands, Shown, Judged, Recounted};
+ghost use Rattle.explicit.specs.Meaning.{levelAsked, overrideAsked, meaning, invalidHere, Sound, counts, Stands, Shown, Judged, Recounted};
 
 // The highest level that a code may take.
 const HIGHEST: u8 = 61;

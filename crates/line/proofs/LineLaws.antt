@@ -16,7 +16,7 @@ use Rattle.rules.specs.Choice.{if_then_else_}
 use Rattle.rules.specs.Classes.{isRemoved}
 use Rattle.rules.specs.Jobs.{over}
 use Rattle.rules.specs.Line.{Item, L1, L2, items, pass, passes, highest, lowestOdd, part, lineLevels, lineOrder, allOrders}
-use Rattle.rules.specs.Refusals.{endsRise}
+use Rattle.rules.specs.Refusals.{endsRiseTo}
 use Rattle.rules.proofs.Lists.{drop-next}
 use Rattle.line.specs.Gathered.{Gathered, positions, levelsOf, lineItems}
 use Rattle.line.specs.Ordered.{Ordered}
@@ -136,16 +136,16 @@ length-lineOrder base cs ls from to h =
 
 -- all lines: the next end lies past the last one and within the paragraph
 module _ (from to : ℕ) (ends : List ℕ) (last : ℕ) where
-  rises-if : (b : Bool) → ltb from to ≡ b → (if b then endsRise to ends last else false) ≡ true → (from < to) × (endsRise to ends last ≡ true)
+  rises-if : (b : Bool) → ltb from to ≡ b → (if b then endsRiseTo to ends last else false) ≡ true → (from < to) × (endsRiseTo to ends last ≡ true)
   rises-if true e r = (ltb-true from to e, r)
   rises-if false e r = let z : _≡_ {A = ℕ} 0 1 = cc in absurd (omega arith)
 
-  rises-on : endsRise from (to ∷ ends) last ≡ true → (from < to) × (endsRise to ends last ≡ true)
-  unfolding endsRise
+  rises-on : endsRiseTo from (to ∷ ends) last ≡ true → (from < to) × (endsRiseTo to ends last ≡ true)
+  unfolding endsRiseTo
   rises-on r = rises-if (ltb from to) refl r
 
-rises-within : (from : ℕ) (ends : List ℕ) (last : ℕ) → endsRise from ends last ≡ true → from ≤ last
-unfolding endsRise
+rises-within : (from : ℕ) (ends : List ℕ) (last : ℕ) → endsRiseTo from ends last ≡ true → from ≤ last
+unfolding endsRiseTo
 rises-within from [] last r = let e : from ≡ last = eqb-true from last r in omega arith
 rises-within from (to ∷ ends) last r =
     let on = rises-on from to ends last r in
@@ -157,10 +157,10 @@ pub record Lines (base : ℕ) (cs ls ends order₀ order : List ℕ) (from count
   pub within : i ≤ length ends
   pub behind : count ≤ from
   pub inside : from ≤ length cs
-  pub rises : endsRise from (drop i ends) (length cs) ≡ true
+  pub rises : endsRiseTo from (drop i ends) (length cs) ≡ true
   pub filled : Filled (allOrders base cs ls 0 ends) order₀ order count (allOrders base cs ls from (drop i ends))
 
-pub lines-begun : (base : ℕ) (cs ls ends order : List ℕ) → endsRise 0 ends (length cs) ≡ true → Lines base cs ls ends order order 0 0 0
+pub lines-begun : (base : ℕ) (cs ls ends order : List ℕ) → endsRiseTo 0 ends (length cs) ≡ true → Lines base cs ls ends order order 0 0 0
 lines-begun base cs ls ends order r = record {
   within = omega arith;
   behind = omega arith;
@@ -174,8 +174,8 @@ module _ (base : ℕ) (cs ls ends order₀ order : List ℕ) (from count i : ℕ
     ends-next : drop i ends ≡ to ∷ drop (i + 1) ends
     ends-next = drop-next ends i h ∙ ap (λ (n : ℕ). n ∷ drop (i + 1) ends) (sym end)
 
-    next-rises : (from < to) × (endsRise to (drop (i + 1) ends) (length cs) ≡ true)
-    next-rises = rises-on from to (drop (i + 1) ends) (length cs) (subst (λ (es : List ℕ). endsRise from es (length cs) ≡ true) ends-next (l .rises))
+    next-rises : (from < to) × (endsRiseTo to (drop (i + 1) ends) (length cs) ≡ true)
+    next-rises = rises-on from to (drop (i + 1) ends) (length cs) (subst (λ (es : List ℕ). endsRiseTo from es (length cs) ≡ true) ends-next (l .rises))
 
     -- the next line, where it begins and ends
     pub next-line : (from < to) × (to ≤ length cs)

@@ -10,7 +10,7 @@ ghost use Rattle.rules.specs.Choice.{if_then_else_, isOdd};
 ghost use Rattle.rules.specs.Classes.{isRemoved, isSeparator, isBlank};
 ghost use Rattle.rules.specs.Jobs.{over};
 ghost use Rattle.rules.specs.Line.{L1, L2, items, highest, lowestOdd, lineOrder, allOrders};
-ghost use Rattle.rules.specs.Refusals.{endsRise};
+ghost use Rattle.rules.specs.Refusals.{endsRiseTo};
 ghost use Rattle.line.specs.Gathered.{Gathered, positions, levelsOf, lineItems};
 ghost use Rattle.line.specs.Ordered.{Ordered};
 ghost use Rattle.line.specs.Passes.{atLevels, span, passBy, passesBy, Turned};
@@ -341,7 +341,7 @@ pub fn order_lines(
 ) -> usize
     requires { ⌜ length (now classes) ≤ length (now levels) ⌝ }
     requires { ⌜ length (now classes) ≤ 4096 ⌝ }
-    requires { ⌜ endsRise 0 (now ends) (length (now classes)) ≡ true ⌝ }
+    requires { ⌜ endsRiseTo 0 (now ends) (length (now classes)) ≡ true ⌝ }
     requires { ⌜ length (now classes) ≤ length (now order) ⌝ }
     ensures { λ r. ⌜ Ordered (allOrders base (now (classes .entry)) (now (levels .entry)) 0 (now (ends .entry))) (now (order .entry)) r (now (order .exit)) ⌝ }
 {

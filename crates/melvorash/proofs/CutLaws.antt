@@ -12,7 +12,7 @@ use lib.Seq.{take-length}
 use Rattle.rules.specs.Choice.{if_then_else_}
 use Rattle.rules.specs.Classes.{B, isUnknown, isParagraphEnd}
 use Rattle.rules.specs.Paragraph.{P1}
-use Rattle.rules.specs.Refusals.{Check, sound, refuse, _then_, isEmpty, checkSome, walk, checksOfCut}
+use Rattle.rules.specs.Refusals.{Check, sound, refuse, _andThen_, isEmpty, checkSome, walk, checksOfCut}
 use Rattle.rules.specs.Jobs.{Answer, accepted, refused, answered, whereSound, cutAnswer, cutPart}
 use Rattle.rules.proofs.Lists.{drop-next}
 use Rattle.melvorash.proofs.JobLaws.{accepted-value, never-both}

@@ -9,7 +9,7 @@ use lib.ListN.{length}
 use Rattle.rules.specs.Choice.{if_then_else_}
 use Rattle.rules.specs.Classes.{B, isUnknown, isParagraphEnd}
 use Rattle.rules.specs.Paragraph.{P1}
-use Rattle.rules.specs.Refusals.{Check, sound, refuse, _then_, isEmpty, refuseWhere, checkSome, walk, checksOfCut}
+use Rattle.rules.specs.Refusals.{Check, sound, refuse, _andThen_, isEmpty, refuseWhere, checkSome, walk, checksOfCut}
 use Rattle.rules.specs.Jobs.{Answer, accepted, refused, answered, whereSound, cutAnswer, cutPart}
 use Rattle.melvorash.proofs.CutLaws.{part-refused}
 

@@ -13,7 +13,7 @@ use Rattle.rules.specs.Classes.{isRemoved}
 use Rattle.rules.specs.Paragraph.{baseOf}
 use Rattle.rules.specs.Explicit.{X1, explicitLevels, kept}
 use Rattle.rules.specs.Resolve.{resolvedLevels}
-use Rattle.rules.specs.Refusals.{Check, sound, refuse, _then_, refuseWhere, checkClasses, checkBase, checkLevelRoom, isBadLevel, firstBadLevel, isEmpty, endsRise, checkLine, checkEnds, checkOrderRoom, checksOfLevels, checksOfOrder, checksOfLine, checksOfLines}
+use Rattle.rules.specs.Refusals.{Check, sound, refuse, _andThen_, refuseWhere, checkClasses, checkBase, checkLevelRoom, isBadLevel, firstBadLevel, isEmpty, endsRiseTo, checkLine, checkEnds, checkOrderRoom, checksOfLevels, checksOfOrder, checksOfLine, checksOfLines}
 use Rattle.rules.specs.Jobs.{Answer, accepted, refused, answered, whereSound, over, levelsAnswer, explicitBuffer, resolveBuffer, lineAnswer, linesAnswer}
 use Rattle.rules.proofs.Passes.{by-test}
 use Rattle.refusals.proofs.SoundLaws.{levels-sound}
@@ -102,7 +102,7 @@ module _ (cs : List ℕ) (request : ℕ) (levels : List ℕ) (r : BaseAnswer) (a
 refused-number : {m n p q : ℕ} → refused m p ≡ refused n q → m ≡ n
 refused-number e = cc
 
-two-tests : (b d : Bool) (m n value number place : ℕ) → answered (refuseWhere b m then refuseWhere d n) value ≡ refused number place → (number ≡ m) ⊎ (number ≡ n)
+two-tests : (b d : Bool) (m n value number place : ℕ) → answered (refuseWhere b m andThen refuseWhere d n) value ≡ refused number place → (number ≡ m) ⊎ (number ≡ n)
 two-tests true d m n value number place e = inl (sym (refused-number e))
 two-tests false true m n value number place e = inr (sym (refused-number e))
 two-tests false false m n value number place e = absurd (never-both e)
@@ -116,4 +116,4 @@ line-refusals cs levels base from to order number place s e =
 pub lines-refusals : (cs levels : List ℕ) (base : ℕ) (ends order : List ℕ) (number place : ℕ) → checksOfOrder cs levels base ≡ sound → linesAnswer cs levels base ends order ≡ refused number place → (number ≡ 10) ⊎ (number ≡ 9)
 unfolding linesAnswer checksOfLines checkEnds checkOrderRoom
 lines-refusals cs levels base ends order number place s e =
-    two-tests (isEmpty ends || not (endsRise 0 ends (length cs))) (ltb (length order) (length cs)) 10 9 _ number place (rw s at e)
+    two-tests (isEmpty ends || not (endsRiseTo 0 ends (length cs))) (ltb (length order) (length cs)) 10 9 _ number place (rw s at e)

@@ -11,7 +11,7 @@ use lib.Dec.{eqb, leb, ltb}
 use lib.ListN.{length, getD, drop, length-drop, drop-of-length-le}
 use Rattle.rules.specs.Choice.{if_then_else_}
 use Rattle.rules.specs.Classes.{isUnknown, isRemoved, isParagraphEnd}
-use Rattle.rules.specs.Refusals.{Check, sound, refuse, _then_, refuseWhere, isEmpty, checkSome, checkLength, faultAt, firstFault, checkClasses, isBadLevel, firstBadLevel, endsRise, checkEnds}
+use Rattle.rules.specs.Refusals.{Check, sound, refuse, _andThen_, refuseWhere, isEmpty, checkSome, checkLength, faultAt, firstFault, checkClasses, isBadLevel, firstBadLevel, endsRiseTo, checkEnds}
 use Rattle.rules.proofs.Lists.{drop-next}
 
 -- ---- the fault at one position
@@ -42,7 +42,7 @@ none-left xs i h = rw (drop-of-length-le xs h)
 pub walk-begun : (cs : List ℕ) → firstFault 0 (drop 0 cs) ≡ firstFault 0 cs
 walk-begun cs = refl
 
-fault-step : (at c : ℕ) (cs : List ℕ) → firstFault at (c ∷ cs) ≡ (faultAt at c cs then firstFault (suc at) cs)
+fault-step : (at c : ℕ) (cs : List ℕ) → firstFault at (c ∷ cs) ≡ (faultAt at c cs andThen firstFault (suc at) cs)
 unfolding firstFault
 fault-step at c cs = refl
 
@@ -106,19 +106,19 @@ unfolding firstBadLevel
 levels-done cs ls i whole h e = rw (drop-of-length-le cs h) at e
 
 -- ---- the ends
-ends-step : (before end : ℕ) (ends : List ℕ) (last : ℕ) → endsRise before (end ∷ ends) last ≡ (if ltb before end then endsRise end ends last else false)
-unfolding endsRise
+ends-step : (before end : ℕ) (ends : List ℕ) (last : ℕ) → endsRiseTo before (end ∷ ends) last ≡ (if ltb before end then endsRiseTo end ends last else false)
+unfolding endsRiseTo
 ends-step before end ends last = refl
 
-module _ (ends : List ℕ) (last before i : ℕ) (whole : Bool) (h : i < length ends) (e : endsRise before (drop i ends) last ≡ whole) where
-  pub ends-rising : before < getD ends i 0 → endsRise (getD ends i 0) (drop (i + 1) ends) last ≡ whole
+module _ (ends : List ℕ) (last before i : ℕ) (whole : Bool) (h : i < length ends) (e : endsRiseTo before (drop i ends) last ≡ whole) where
+  pub ends-rising : before < getD ends i 0 → endsRiseTo (getD ends i 0) (drop (i + 1) ends) last ≡ whole
   ends-rising g = rw (drop-next ends i h, ends-step, lt-ltb before (getD ends i 0) g) at e
 
   pub ends-stuck : getD ends i 0 ≤ before → false ≡ whole
   ends-stuck g = rw (drop-next ends i h, ends-step, le-ltb before (getD ends i 0) g) at e
 
-pub ends-done : (ends : List ℕ) (last before i : ℕ) (whole : Bool) → length ends ≤ i → endsRise before (drop i ends) last ≡ whole → eqb before last ≡ whole
-unfolding endsRise
+pub ends-done : (ends : List ℕ) (last before i : ℕ) (whole : Bool) → length ends ≤ i → endsRiseTo before (drop i ends) last ≡ whole → eqb before last ≡ whole
+unfolding endsRiseTo
 ends-done ends last before i whole h e = rw (drop-of-length-le ends h) at e
 
 -- ---- the three ways through the check of the ends
@@ -127,10 +127,10 @@ unfolding checkEnds
 ends-none cs [] h = refl
 ends-none cs (x ∷ xs) h = absurd (omega arith)
 
-pub ends-wrong : (cs ends : List ℕ) → (length ends ≡ 0 → ⊥) → endsRise 0 ends (length cs) ≡ false → checkEnds cs ends ≡ refuse 10 0
+pub ends-wrong : (cs ends : List ℕ) → (length ends ≡ 0 → ⊥) → endsRiseTo 0 ends (length cs) ≡ false → checkEnds cs ends ≡ refuse 10 0
 unfolding checkEnds
 ends-wrong cs ends h e = rw (some-is ends h, e)
 
-pub ends-right : (cs ends : List ℕ) → (length ends ≡ 0 → ⊥) → endsRise 0 ends (length cs) ≡ true → checkEnds cs ends ≡ sound
+pub ends-right : (cs ends : List ℕ) → (length ends ≡ 0 → ⊥) → endsRiseTo 0 ends (length cs) ≡ true → checkEnds cs ends ≡ sound
 unfolding checkEnds
 ends-right cs ends h e = rw (some-is ends h, e)

@@ -7,12 +7,12 @@ use mathlib.Core.List.{List}
 use borrow.Author.Tests.{ltb-false, leb-false, not-false}
 use lib.Dec.{leb, ltb}
 use lib.ListN.{length}
-use Rattle.rules.specs.Refusals.{Check, sound, refuse, _then_, refuseWhere, isEmpty, checkSome, checkLength, firstFault, checkClasses, checkRequest, checkBase, checkLevelRoom, firstBadLevel, checkLine, checkOrderRoom, endsRise, checkEnds, checksOfLevels, checksOfOrder, checksOfLine, checksOfLines}
+use Rattle.rules.specs.Refusals.{Check, sound, refuse, _andThen_, refuseWhere, isEmpty, checkSome, checkLength, firstFault, checkClasses, checkRequest, checkBase, checkLevelRoom, firstBadLevel, checkLine, checkOrderRoom, endsRiseTo, checkEnds, checksOfLevels, checksOfOrder, checksOfLine, checksOfLines}
 
 never-sound : {number place : ℕ} → refuse number place ≡ sound → ⊥
 never-sound e = let z : _≡_ {A = ℕ} 0 1 = cc in omega arith
 
-both-sound : (a b : Check) → (a then b) ≡ sound → (a ≡ sound) × (b ≡ sound)
+both-sound : (a b : Check) → (a andThen b) ≡ sound → (a ≡ sound) × (b ≡ sound)
 both-sound sound b e = (refl, e)
 both-sound (refuse number place) b e = absurd (never-sound e)
 
@@ -39,7 +39,7 @@ pub record LevelsSound (cs : List ℕ) (request room : ℕ) : Type 0 where
 pub levels-sound : (cs : List ℕ) (request room : ℕ) → checksOfLevels cs request room ≡ sound → LevelsSound cs request room
 unfolding checksOfLevels checkRequest checkLevelRoom
 levels-sound cs request room e =
-    let both = both-sound (checkClasses cs) (checkRequest request then checkLevelRoom cs room) e in
+    let both = both-sound (checkClasses cs) (checkRequest request andThen checkLevelRoom cs room) e in
     let later = both-sound (checkRequest request) (checkLevelRoom cs room) (both .1) in
     record {
       classes = both .0;
@@ -56,8 +56,8 @@ pub record OrderSound (cs levels : List ℕ) (base : ℕ) : Type 0 where
 order-sound : (cs levels : List ℕ) (base : ℕ) → checksOfOrder cs levels base ≡ sound → OrderSound cs levels base
 unfolding checksOfOrder checkBase checkLevelRoom
 order-sound cs levels base e =
-    let both = both-sound (checkClasses cs) (checkBase base then checkLevelRoom cs (length levels) then firstBadLevel 0 cs levels) e in
-    let later = both-sound (checkBase base) (checkLevelRoom cs (length levels) then firstBadLevel 0 cs levels) (both .1) in
+    let both = both-sound (checkClasses cs) (checkBase base andThen checkLevelRoom cs (length levels) andThen firstBadLevel 0 cs levels) e in
+    let later = both-sound (checkBase base) (checkLevelRoom cs (length levels) andThen firstBadLevel 0 cs levels) (both .1) in
     let last = both-sound (checkLevelRoom cs (length levels)) (firstBadLevel 0 cs levels) (later .1) in
     record {
       few = classes-length cs (both .0);
@@ -74,7 +74,7 @@ pub record LineSound (cs levels : List ℕ) (base from to room : ℕ) : Type 0 w
 pub line-sound : (cs levels : List ℕ) (base from to room : ℕ) → checksOfLine cs levels base from to room ≡ sound → LineSound cs levels base from to room
 unfolding checksOfLine checkLine checkOrderRoom
 line-sound cs levels base from to room e =
-    let both = both-sound (checksOfOrder cs levels base) (checkLine cs from to then checkOrderRoom (to - from) room) e in
+    let both = both-sound (checksOfOrder cs levels base) (checkLine cs from to andThen checkOrderRoom (to - from) room) e in
     let later = both-sound (checkLine cs from to) (checkOrderRoom (to - from) room) (both .1) in
     let line = neither (leb to from) (ltb (length cs) to) (test-fails _ _ (later .0)) in
     record {
@@ -86,17 +86,17 @@ line-sound cs levels base from to room e =
 
 pub record LinesSound (cs levels : List ℕ) (base : ℕ) (ends : List ℕ) (room : ℕ) : Type 0 where
   pub order : OrderSound cs levels base
-  pub rise : endsRise 0 ends (length cs) ≡ true
+  pub rise : endsRiseTo 0 ends (length cs) ≡ true
   pub fits : length cs ≤ room
 
 pub lines-sound : (cs levels : List ℕ) (base : ℕ) (ends : List ℕ) (room : ℕ) → checksOfLines cs levels base ends room ≡ sound → LinesSound cs levels base ends room
 unfolding checksOfLines checkEnds checkOrderRoom
 lines-sound cs levels base ends room e =
-    let both = both-sound (checksOfOrder cs levels base) (checkEnds cs ends then checkOrderRoom (length cs) room) e in
+    let both = both-sound (checksOfOrder cs levels base) (checkEnds cs ends andThen checkOrderRoom (length cs) room) e in
     let later = both-sound (checkEnds cs ends) (checkOrderRoom (length cs) room) (both .1) in
-    let ends-ok = neither (isEmpty ends) (not (endsRise 0 ends (length cs))) (test-fails _ _ (later .0)) in
+    let ends-ok = neither (isEmpty ends) (not (endsRiseTo 0 ends (length cs))) (test-fails _ _ (later .0)) in
     record {
       order = order-sound cs levels base (both .0);
-      rise = not-false (endsRise 0 ends (length cs)) (ends-ok .1);
+      rise = not-false (endsRiseTo 0 ends (length cs)) (ends-ok .1);
       fits = ltb-false room (length cs) (test-fails _ _ (later .1));
     }

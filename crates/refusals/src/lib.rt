@@ -4,7 +4,7 @@ ghost use mathlib.Core.Path.{_≡_};
 ghost use mathlib.Core.Bool.{Bool};
 ghost use Prim.Native.Nat.{_+_, _≤_, _<_};
 ghost use lib.ListN.{length, getD, drop};
-ghost use Rattle.rules.specs.Refusals.{faultAt, firstFault, checkClasses, isBadLevel, firstBadLevel, endsRise, checksOfLevels, checksOfOrder, checksOfLine, checksOfLines};
+ghost use Rattle.rules.specs.Refusals.{faultAt, firstFault, checkClasses, isBadLevel, firstBadLevel, endsRiseTo, checksOfLevels, checksOfOrder, checksOfLine, checksOfLines};
 ghost use Rattle.refusals.specs.Page.{checkOf, numberOf, placeOf};
 
 // The longest paragraph, the highest resolved level, and what a level buffer holds where removed.
@@ -143,7 +143,7 @@ pub(crate) fn first_bad_level(classes: &[u8], levels: &[u8]) -> Checked
 
 // Whether the ends rise strictly from above 0 to the last.
 pub(crate) fn ends_rise(ends: &[u16], last: usize) -> bool
-    ensures { λ r. ⌜ r ≡ endsRise 0 (now (ends .entry)) last ⌝ }
+    ensures { λ r. ⌜ r ≡ endsRiseTo 0 (now (ends .entry)) last ⌝ }
 {
     let mut before: usize = 0;
     let mut i = 0;

@@ -14,5 +14,5 @@ isOdd n = eqb (n % 2) 1
 
 -- the first of a list, or the given one where there is none
 abbrev pub headOr : ℕ → List ℕ → ℕ
-headOr none [] = none
-headOr none (x ∷ xs) = x
+headOr otherwise [] = otherwise
+headOr otherwise (x ∷ xs) = x

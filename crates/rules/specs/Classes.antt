@@ -1,7 +1,7 @@
 -- The directional classes by their house numbers, and each question that the rules ask of a class.
 use Prim.Native.Nat.{ℕ}
 use mathlib.Core.Bool.{Bool, _||_}
-use lib.Dec.{eqb, leb, ltb}
+use lib.Dec.{eqb, ltb}
 
 abbrev pub L : ℕ
 L = 0
@@ -67,7 +67,7 @@ highestClass = ON
 unfoldable pub isUnknown : ℕ → Bool
 isUnknown c = ltb highestClass c
 
--- a separator of paragraphs
+-- B, the separator of paragraphs
 unfoldable pub isParagraphEnd : ℕ → Bool
 isParagraphEnd c = eqb c B
 
@@ -87,7 +87,7 @@ isStrong c = eqb c L || eqb c R || eqb c AL
 unfoldable pub isNeutral : ℕ → Bool
 isNeutral c = isParagraphEnd c || eqb c S || eqb c WS || eqb c ON
 
--- L1: what goes back to the base level by itself, and what does so before it or at the line's end
+-- L1: S and B go back to the base level by themselves, WS before them or at the line's end
 unfoldable pub isSeparator : ℕ → Bool
 isSeparator c = eqb c S || isParagraphEnd c
 

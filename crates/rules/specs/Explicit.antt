@@ -1,10 +1,9 @@
 -- Explicit levels and directions: rules X1 to X9, as a machine that takes one class at a time.
 use Prim.Native.Nat.{ℕ, _+_}
-use mathlib.Core.Bool.{Bool, _||_}
 use mathlib.Core.List.{List, [], _∷_, tail}
 use lib.Dec.{eqb, leb}
 use Rattle.rules.specs.Choice.{if_then_else_, isOdd, headOr}
-use Rattle.rules.specs.Classes.{L, R, LRO, RLE, RLO, PDF, B, ON, isOpening, isRemoved, isParagraphEnd}
+use Rattle.rules.specs.Classes.{L, R, LRE, LRO, RLE, RLO, PDF, ON, isRemoved, isParagraphEnd}
 
 -- the highest level that a code may take
 abbrev pub highestExplicit : ℕ
@@ -33,19 +32,12 @@ pub record State : Type 0 where
 unfoldable pub X1 : ℕ → State
 X1 base = record { level = base; override = neutral; unmatched = [] }
 
--- X2 and X4 ask for the least greater odd level, X3 and X5 for the least greater even one
+-- the least greater odd level, and the least greater even one
 unfoldable pub leastGreaterOdd : ℕ → ℕ
 leastGreaterOdd l = if isOdd l then l + 2 else l + 1
 
 unfoldable pub leastGreaterEven : ℕ → ℕ
 leastGreaterEven l = if isOdd l then l + 1 else l + 2
-
-unfoldable pub levelAsked : ℕ → ℕ → ℕ
-levelAsked c l = if eqb c RLE || eqb c RLO then leastGreaterOdd l else leastGreaterEven l
-
--- X4 sets the override to R and X5 to L; X2 and X3 make it neutral
-unfoldable pub overrideAsked : ℕ → ℕ
-overrideAsked c = if eqb c RLO then R else if eqb c LRO then L else neutral
 
 -- what a class does in a state
 pub data Verdict : Type 0 where
@@ -58,20 +50,44 @@ pub data Verdict : Type 0 where
   closesNothing : Verdict
   plain : Verdict
 
--- X2 to X5: a code is valid where the level that it asks for is at most 61
+-- what a code opens: it is valid where the level that it asks for is at most 61
 unfoldable pub opening : ℕ → ℕ → Verdict
 opening new override = if leb new highestExplicit then opensValid new override else opensInvalid
 
--- X7: PDF matches the nearest code not yet matched, valid or not
+-- what a PDF closes: the nearest code not yet matched, valid or not
 unfoldable pub closing : List Entry → Verdict
 closing [] = closesNothing
 closing (valid l o ∷ es) = closesValid l o
 closing (invalid ∷ es) = closesInvalid
 
+-- X2: RLE asks for the least greater odd level, with no override
+unfoldable pub X2 : State → Verdict
+X2 s = opening (leastGreaterOdd (s .level)) neutral
+
+-- X3: LRE asks for the least greater even level, with no override
+unfoldable pub X3 : State → Verdict
+X3 s = opening (leastGreaterEven (s .level)) neutral
+
+-- X4: RLO asks for the least greater odd level, with the override R
+unfoldable pub X4 : State → Verdict
+X4 s = opening (leastGreaterOdd (s .level)) R
+
+-- X5: LRO asks for the least greater even level, with the override L
+unfoldable pub X5 : State → Verdict
+X5 s = opening (leastGreaterEven (s .level)) L
+
+-- X7: PDF closes the nearest code not yet matched
+unfoldable pub X7 : State → Verdict
+X7 s = closing (s .unmatched)
+
+-- every other class is plain: it leaves the state as it is, B too, which is always last
 unfoldable pub verdict : State → ℕ → Verdict
 verdict s c =
-    if isOpening c then opening (levelAsked c (s .level)) (overrideAsked c) else
-    if eqb c PDF then closing (s .unmatched) else plain
+    if eqb c RLE then X2 s else
+    if eqb c LRE then X3 s else
+    if eqb c RLO then X4 s else
+    if eqb c LRO then X5 s else
+    if eqb c PDF then X7 s else plain
 
 -- the state that a verdict leads to
 unfoldable pub after : State → Verdict → State
@@ -86,13 +102,20 @@ after s plain = s
 unfoldable pub step : State → ℕ → State
 step s c = after s (verdict s c)
 
--- X6a, X8, X9: a position takes the current level, a paragraph separator the base level, a removed one none
-unfoldable pub levelHere : ℕ → State → ℕ → ℕ
-levelHere base s c = if isRemoved c then removedLevel else if isParagraphEnd c then base else s .level
+-- X6: a position takes the current level, and under an override its direction
+unfoldable pub X6level : State → ℕ
+X6level s = s .level
 
--- X6b, X8: under an override a position takes its direction; a paragraph separator stays what it is
+unfoldable pub X6type : State → ℕ → ℕ
+X6type s c = if eqb (s .override) neutral then c else s .override
+
+-- X8: a paragraph separator is not in any embedding: it takes the base level and stays what it is.
+-- X9: a removed position has no level, which is written 255
+unfoldable pub levelHere : ℕ → State → ℕ → ℕ
+levelHere base s c = if isRemoved c then removedLevel else if isParagraphEnd c then base else X6level s
+
 unfoldable pub typeHere : State → ℕ → ℕ
-typeHere s c = if isParagraphEnd c then c else if eqb (s .override) neutral then c else s .override
+typeHere s c = if isParagraphEnd c then c else X6type s c
 
 -- the phase is that machine, step for step
 unfoldable pub explicitLevels : ℕ → State → List ℕ → List ℕ
@@ -109,7 +132,8 @@ kept [] xs = []
 kept (c ∷ cs) [] = []
 kept (c ∷ cs) (x ∷ xs) = if isRemoved c then kept cs xs else x ∷ kept cs xs
 
--- the way back: the elements at the kept positions in turn, and 255 at the removed ones
+-- the way back: the elements at the kept positions in turn, and 255 at the removed ones. There are always as many
+-- elements as kept positions
 unfoldable pub putBack : List ℕ → List ℕ → List ℕ
 putBack [] xs = []
 putBack (c ∷ cs) xs =

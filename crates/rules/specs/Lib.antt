@@ -1,5 +1,15 @@
--- What a reader must believe: section 3.12 of the Unicode Standard 3.0, as document 01 reads it.
--- Each module holds the rules of one phase, each rule under its own name.
+-- What a reader must believe: section 3.12 of the Unicode Standard 3.0, as document 01 reads it, and the refusals.
+-- Where each rule stands:
+--   P1 to P3           Paragraph, each under its name
+--   X1 to X5, X7       Explicit, each under its name; X6 as X6level and X6type; X8 and X9 in levelHere and typeHere
+--   X9                 Classes.isRemoved says what is removed, Explicit.kept removes it
+--   X10                Runs, and Resolve.resolveRuns for the levels beside a run
+--   W1 to W7           Weak, each under its name
+--   N1, N2             Neutral, each under its name
+--   I1, I2             Implicit, each under its name
+--   L1, L2             Line, each under its name
+-- Refusals has the ten refusals and each job's order of checks, Jobs what each job answers and leaves in its buffer,
+-- Table the eleven rows of document 01 that are proved.
 pub mod Choice
 pub mod Classes
 pub mod Paragraph

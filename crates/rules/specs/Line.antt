@@ -1,8 +1,8 @@
 -- The order of one line: rules L1 and L2.
-use Prim.Native.Nat.{ℕ, zero, suc, _+_, _-_, max, min}
+use Prim.Native.Nat.{ℕ, zero, suc, _-_, max, min}
 use mathlib.Core.Bool.{Bool, true, _||_, _&&_}
 use mathlib.Core.List.{List, [], _∷_, _++_, map}
-use lib.Dec.{eqb, leb}
+use lib.Dec.{leb}
 use lib.ListN.{take, drop}
 use Rattle.rules.specs.Choice.{if_then_else_, isOdd}
 use Rattle.rules.specs.Classes.{isRemoved, isSeparator, isBlank}
@@ -49,8 +49,9 @@ highest (x ∷ xs) = max (x .level) (highest xs)
 
 -- the lowest odd level, or the given number where there is none
 unfoldable pub lowestOdd : ℕ → List Item → ℕ
-lowestOdd none [] = none
-lowestOdd none (x ∷ xs) = if isOdd (x .level) then min (x .level) (lowestOdd none xs) else lowestOdd none xs
+lowestOdd otherwise [] = otherwise
+lowestOdd otherwise (x ∷ xs) =
+    if isOdd (x .level) then min (x .level) (lowestOdd otherwise xs) else lowestOdd otherwise xs
 
 -- L2: from the highest level on the line down to the lowest odd one; with no odd level there is no pass
 unfoldable pub L2 : List Item → List Item

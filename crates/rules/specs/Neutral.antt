@@ -1,6 +1,6 @@
 -- Neutral types (B, S, WS, ON): rules N1 and N2.
 use Prim.Native.Nat.{ℕ}
-use mathlib.Core.Bool.{Bool, _||_}
+use mathlib.Core.Bool.{_||_}
 use mathlib.Core.List.{List, map}
 use lib.Dec.{eqb}
 use Rattle.rules.specs.Choice.{if_then_else_, isOdd}

@@ -1,13 +1,13 @@
 -- Paragraphs and the base level: rules P1 to P3.
 use Prim.Native.Nat.{ℕ}
-use mathlib.Core.Bool.{Bool, _||_}
+use mathlib.Core.Bool.{_||_}
 use mathlib.Core.List.{List, [], _∷_}
 use mathlib.Core.Option.{Option, none, some}
 use lib.Dec.{eqb}
 use Rattle.rules.specs.Choice.{if_then_else_}
 use Rattle.rules.specs.Classes.{R, AL, isParagraphEnd, isStrong}
 
--- P1: the first paragraph ends after the first separator, which it keeps, or at the end of the text
+-- P1: the first paragraph ends after the first B, which it keeps, or at the end of the text
 unfoldable pub P1 : List ℕ → List ℕ
 P1 [] = []
 P1 (c ∷ cs) = if isParagraphEnd c then c ∷ [] else c ∷ P1 cs

@@ -2,7 +2,6 @@
 use Prim.Native.Nat.{ℕ, zero, suc, _-_}
 use mathlib.Core.Bool.{Bool, true, false, _||_, not}
 use mathlib.Core.List.{List, [], _∷_}
-use mathlib.Core.Option.{Option, none, some}
 use lib.Dec.{eqb, leb, ltb}
 use lib.ListN.{length}
 use Rattle.rules.specs.Choice.{if_then_else_}
@@ -10,8 +9,8 @@ use Rattle.rules.specs.Classes.{isUnknown, isRemoved, isParagraphEnd}
 use Rattle.rules.specs.Explicit.{removedLevel}
 
 -- the longest paragraph, and the highest level that resolving can give
-abbrev pub longest : ℕ
-longest = 4096
+abbrev pub longestParagraph : ℕ
+longestParagraph = 4096
 
 abbrev pub highestResolved : ℕ
 highestResolved = 62
@@ -22,10 +21,10 @@ pub data Check : Type 0 where
   refuse : ℕ → ℕ → Check
 
 -- one check, then the next where the first finds nothing wrong
-infixr 20 _then_
-abbrev pub _then_ : Check → Check → Check
-sound then next = next
-(refuse number place) then next = refuse number place
+infixr 20 _andThen_
+abbrev pub _andThen_ : Check → Check → Check
+sound andThen next = next
+(refuse number place) andThen next = refuse number place
 
 -- a refusal with place 0 where a test holds
 abbrev pub refuseWhere : Bool → ℕ → Check
@@ -41,9 +40,9 @@ unfoldable pub checkSome : List ℕ → Check
 checkSome cs = refuseWhere (isEmpty cs) 1
 
 unfoldable pub checkLength : List ℕ → Check
-checkLength cs = refuseWhere (ltb longest (length cs)) 3
+checkLength cs = refuseWhere (ltb longestParagraph (length cs)) 3
 
--- the fault at a position, given what stands after it: 2, no class; 4, a separator before the last position
+-- the fault at a position, given what stands after it: 2, an unknown class; 4, B before the last position
 unfoldable pub faultAt : ℕ → ℕ → List ℕ → Check
 faultAt at c cs =
     if isUnknown c then refuse 2 at else
@@ -52,11 +51,11 @@ faultAt at c cs =
 -- the first faulty position from the left, the first position being `at`
 unfoldable pub firstFault : ℕ → List ℕ → Check
 firstFault at [] = sound
-firstFault at (c ∷ cs) = faultAt at c cs then firstFault (suc at) cs
+firstFault at (c ∷ cs) = faultAt at c cs andThen firstFault (suc at) cs
 
--- the checks of a paragraph's classes, in the page's order
+-- the checks of a paragraph's classes, in document 01's order
 unfoldable pub checkClasses : List ℕ → Check
-checkClasses cs = checkSome cs then checkLength cs then firstFault 0 cs
+checkClasses cs = checkSome cs andThen checkLength cs andThen firstFault 0 cs
 
 -- 5: a base request above 2; in Order, a base above 1
 unfoldable pub checkRequest : ℕ → Check
@@ -82,44 +81,45 @@ firstBadLevel at (c ∷ cs) (l ∷ ls) = if isBadLevel c l then refuse 7 at else
 unfoldable pub checkLine : List ℕ → ℕ → ℕ → Check
 checkLine cs from to = refuseWhere (leb to from || ltb (length cs) to) 8
 
--- 9: an order buffer shorter than the positions to be ordered, removed ones counted; `room` is how many places it has
+-- 9: an order buffer shorter than the line, or for all lines than the paragraph, removed positions counted; `room` is
+-- how many places it has
 unfoldable pub checkOrderRoom : ℕ → ℕ → Check
 checkOrderRoom positions room = refuseWhere (ltb room positions) 9
 
 -- 10: ends that are none, begin with 0, do not rise strictly, or do not end with the paragraph's length
-unfoldable pub endsRise : ℕ → List ℕ → ℕ → Bool
-endsRise before [] last = eqb before last
-endsRise before (end ∷ ends) last = if ltb before end then endsRise end ends last else false
+unfoldable pub endsRiseTo : ℕ → List ℕ → ℕ → Bool
+endsRiseTo before [] last = eqb before last
+endsRiseTo before (end ∷ ends) last = if ltb before end then endsRiseTo end ends last else false
 
 unfoldable pub checkEnds : List ℕ → List ℕ → Check
-checkEnds cs ends = refuseWhere (isEmpty ends || not (endsRise 0 ends (length cs))) 10
+checkEnds cs ends = refuseWhere (isEmpty ends || not (endsRiseTo 0 ends (length cs))) 10
 
 -- the checks of each job, each made only where those before it found nothing wrong
 unfoldable pub checksOfBase : List ℕ → Check
 checksOfBase cs = checkClasses cs
 
 unfoldable pub checksOfLevels : List ℕ → ℕ → ℕ → Check
-checksOfLevels cs request room = checkClasses cs then checkRequest request then checkLevelRoom cs room
+checksOfLevels cs request room = checkClasses cs andThen checkRequest request andThen checkLevelRoom cs room
 
 unfoldable pub checksOfOrder : List ℕ → List ℕ → ℕ → Check
 checksOfOrder cs levels base =
-    checkClasses cs then checkBase base then checkLevelRoom cs (length levels) then firstBadLevel 0 cs levels
+    checkClasses cs andThen checkBase base andThen checkLevelRoom cs (length levels) andThen firstBadLevel 0 cs levels
 
 unfoldable pub checksOfLine : List ℕ → List ℕ → ℕ → ℕ → ℕ → ℕ → Check
 checksOfLine cs levels base from to room =
-    checksOfOrder cs levels base then checkLine cs from to then checkOrderRoom (to - from) room
+    checksOfOrder cs levels base andThen checkLine cs from to andThen checkOrderRoom (to - from) room
 
 unfoldable pub checksOfLines : List ℕ → List ℕ → ℕ → List ℕ → ℕ → Check
 checksOfLines cs levels base ends room =
-    checksOfOrder cs levels base then checkEnds cs ends then checkOrderRoom (length cs) room
+    checksOfOrder cs levels base andThen checkEnds cs ends andThen checkOrderRoom (length cs) room
 
--- Cut's own: 1; then at most 4,096 positions are looked at: 2 where an unknown class comes before any separator,
--- 3 where there is no separator among them and more follow. `room` counts the positions that may still be looked at
+-- Cut's own: 1; then at most 4,096 positions are looked at: 2 where an unknown class comes before any B,
+-- 3 where there is no B among them and more follow. `left` counts the positions that may still be looked at
 unfoldable pub walk : ℕ → ℕ → List ℕ → Check
-walk room at [] = sound
+walk left at [] = sound
 walk zero at (c ∷ cs) = refuse 3 0
-walk (suc room) at (c ∷ cs) =
-    if isUnknown c then refuse 2 at else if isParagraphEnd c then sound else walk room (suc at) cs
+walk (suc left) at (c ∷ cs) =
+    if isUnknown c then refuse 2 at else if isParagraphEnd c then sound else walk left (suc at) cs
 
 unfoldable pub checksOfCut : List ℕ → Check
-checksOfCut cs = checkSome cs then walk longest 0 cs
+checksOfCut cs = checkSome cs andThen walk longestParagraph 0 cs

@@ -1,11 +1,11 @@
 -- Level runs: rule X10.
 use Prim.Native.Nat.{ℕ, suc, max}
-use mathlib.Core.Bool.{Bool}
 use mathlib.Core.List.{List, [], _∷_}
 use lib.Dec.{eqb}
 use Rattle.rules.specs.Choice.{if_then_else_, isOdd}
 use Rattle.rules.specs.Classes.{L, R}
 
+-- the first run is one position longer
 unfoldable pub oneLonger : List ℕ → List ℕ
 oneLonger [] = 1 ∷ []
 oneLonger (n ∷ ns) = suc n ∷ ns

@@ -1,34 +1,47 @@
 -- Document 01's proof table: its eleven rows marked P, in one table with one statement that the checker computes.
+-- It goes through the jobs: what Resolve and then Order answer, and what they leave in buffers as long as the paragraph.
 use Prim.Native.Nat.{ℕ}
 use mathlib.Core.Path.{_≡_, refl}
-use mathlib.Core.Bool.{true, false, _||_, _&&_}
 use mathlib.Core.List.{List, [], _∷_, map}
-use lib.ListN.{length}
-use Rattle.rules.specs.Classes.{L, R, AL, RLE, PDF, EN, ET, AN, CS, BN, S, WS, isParagraphEnd, isOpening, isRemoved, isStrong, isNeutral, isSeparator, isBlank}
+use lib.ListN.{length, take}
+use Rattle.rules.specs.Classes.{L, R, AL, RLE, PDF, EN, ET, AN, CS, BN, S, WS, isUnknown, isParagraphEnd, isOpening, isRemoved, isStrong, isNeutral, isSeparator, isBlank}
 use Rattle.rules.specs.Paragraph.{P2, P3, baseByText, baseOf}
-use Rattle.rules.specs.Explicit.{removedLevel, X1, leastGreaterOdd, leastGreaterEven, levelAsked, overrideAsked, opening, closing, verdict, after, step, levelHere, typeHere, explicitLevels, explicitTypes, kept, putBack}
+use Rattle.rules.specs.Explicit.{removedLevel, X1, leastGreaterOdd, leastGreaterEven, opening, closing, X2, X3, X4, X5, X6level, X6type, X7, verdict, after, step, levelHere, typeHere, explicitLevels, explicitTypes, kept, putBack}
 use Rattle.rules.specs.Runs.{oneLonger, runLengths, boundaryType}
 use Rattle.rules.specs.Weak.{W1, W2, changeW3, W3, changeW4, W4, afterStretch, stretches, isTerminator, changeW5, W5, changeW6, W6, W7, weak}
 use Rattle.rules.specs.Neutral.{direction, changeN1, N1, levelDirection, changeN2, N2}
 use Rattle.rules.specs.Implicit.{I1, I2, implicitLevel}
 use Rattle.rules.specs.Resolve.{resolveRun, resolveRuns, resolveKept, resolvedLevels}
 use Rattle.rules.specs.Line.{blankAhead, L1, items, pass, passes, highest, lowestOdd, L2, part, lineLevels, lineOrder}
+use Rattle.rules.specs.Refusals.{checkSome, checkLength, faultAt, firstFault, checkClasses, checkRequest, checkBase, checkLevelRoom, isBadLevel, firstBadLevel, checkLine, checkOrderRoom, checksOfLevels, checksOfOrder, checksOfLine}
+use Rattle.rules.specs.Jobs.{Answer, accepted, levelsAnswer, resolveBuffer, lineAnswer, lineBuffer}
 
 pub record Row : Type 0 where
   pub classes : List ℕ
   pub request : ℕ
   pub levels : List ℕ
   pub order : List ℕ
+  pub base : Answer
+  pub count : Answer
 
--- a request by text, and a removed position
+-- a request by text, and what stands for the page's dash
 abbrev byText : ℕ
 byText = 2
 
-abbrev - : ℕ
-- = removedLevel
+abbrev removed : ℕ
+removed = removedLevel
 
+-- a row of the page: both jobs accept, Resolve with the base used, Order with how many positions it ordered
 abbrev row : List ℕ → ℕ → List ℕ → List ℕ → Row
-row classes request levels order = record { classes = classes; request = request; levels = levels; order = order }
+row classes request levels order =
+    record {
+      classes = classes;
+      request = request;
+      levels = levels;
+      order = order;
+      base = accepted (baseOf request classes);
+      count = accepted (length order);
+    }
 
 abbrev pub table : List Row
 table =
@@ -40,18 +53,26 @@ table =
     row (AN ∷ ET ∷ EN ∷ []) 1 (2 ∷ 2 ∷ 2 ∷ []) (0 ∷ 1 ∷ 2 ∷ []) ∷
     row (R ∷ WS ∷ L ∷ []) 0 (1 ∷ 0 ∷ 0 ∷ []) (0 ∷ 1 ∷ 2 ∷ []) ∷
     row (R ∷ WS ∷ L ∷ []) 1 (1 ∷ 1 ∷ 2 ∷ []) (2 ∷ 1 ∷ 0 ∷ []) ∷
-    row (RLE ∷ L ∷ PDF ∷ R ∷ []) 0 (- ∷ 2 ∷ - ∷ 1 ∷ []) (3 ∷ 1 ∷ []) ∷
-    row (EN ∷ BN ∷ CS ∷ EN ∷ []) 1 (2 ∷ - ∷ 2 ∷ 2 ∷ []) (0 ∷ 2 ∷ 3 ∷ []) ∷
+    row (RLE ∷ L ∷ PDF ∷ R ∷ []) 0 (removed ∷ 2 ∷ removed ∷ 1 ∷ []) (3 ∷ 1 ∷ []) ∷
+    row (EN ∷ BN ∷ CS ∷ EN ∷ []) 1 (2 ∷ removed ∷ 2 ∷ 2 ∷ []) (0 ∷ 2 ∷ 3 ∷ []) ∷
     row (R ∷ S ∷ R ∷ []) 0 (1 ∷ 1 ∷ 1 ∷ []) (0 ∷ 1 ∷ 2 ∷ []) ∷
     []
 
--- the row of the same classes and request with the levels and the order that the definitions give it
+-- the row of the same classes and request with what the jobs answer and leave, in buffers lent with any content
 abbrev computed : Row → Row
 computed r =
-    let base = baseOf (r .request) (r .classes) in
-    let levels = resolvedLevels base (r .classes) in
-    row (r .classes) (r .request) levels (lineOrder base (r .classes) levels 0 (length (r .classes)))
+    let cs = r .classes in
+    let base = baseOf (r .request) cs in
+    let levels = resolveBuffer cs (r .request) cs in
+    record {
+      classes = cs;
+      request = r .request;
+      levels = levels;
+      order = take (length (r .order)) (lineBuffer cs levels base 0 (length cs) cs);
+      base = levelsAnswer cs (r .request) cs;
+      count = lineAnswer cs levels base 0 (length cs) cs;
+    }
 
 pub table-holds : map computed table ≡ table
-unfolding isParagraphEnd isOpening isRemoved isStrong isNeutral isSeparator isBlank P2 P3 baseByText baseOf X1 leastGreaterOdd leastGreaterEven levelAsked overrideAsked opening closing verdict after step levelHere typeHere explicitLevels explicitTypes kept putBack oneLonger runLengths boundaryType W1 W2 changeW3 W3 changeW4 W4 afterStretch stretches isTerminator changeW5 W5 changeW6 W6 W7 weak direction changeN1 N1 levelDirection changeN2 N2 I1 I2 implicitLevel resolveRun resolveRuns resolveKept resolvedLevels blankAhead L1 items pass passes highest lowestOdd L2 part lineLevels lineOrder
+unfolding isUnknown isParagraphEnd isOpening isRemoved isStrong isNeutral isSeparator isBlank P2 P3 baseByText baseOf X1 leastGreaterOdd leastGreaterEven opening closing X2 X3 X4 X5 X6level X6type X7 verdict after step levelHere typeHere explicitLevels explicitTypes kept putBack oneLonger runLengths boundaryType W1 W2 changeW3 W3 changeW4 W4 afterStretch stretches isTerminator changeW5 W5 changeW6 W6 W7 weak direction changeN1 N1 levelDirection changeN2 N2 I1 I2 implicitLevel resolveRun resolveRuns resolveKept resolvedLevels blankAhead L1 items pass passes highest lowestOdd L2 part lineLevels lineOrder checkSome checkLength faultAt firstFault checkClasses checkRequest checkBase checkLevelRoom isBadLevel firstBadLevel checkLine checkOrderRoom checksOfLevels checksOfOrder checksOfLine levelsAnswer resolveBuffer lineAnswer lineBuffer
 table-holds = refl

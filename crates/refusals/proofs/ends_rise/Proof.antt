@@ -2,7 +2,7 @@ use Prim.Native.Nat.{_≤_, _-_}
 use mathlib.Core.Path.{_≡_, refl}
 use lib.ListN.{length, drop}
 use native.Mathlib.Omega.{arith}
-use Rattle.rules.specs.Refusals.{endsRise}
+use Rattle.rules.specs.Refusals.{endsRiseTo}
 use Rattle.refusals.proofs.CheckLaws.{ends-rising, ends-stuck, ends-done}
 use borrow.Author.Needs.{needs}
 use Rattle.refusals.proofs.ends_rise.Statement.{statement}
@@ -11,7 +11,7 @@ use Rattle.refusals.proofs.ends_rise.Reads as reads
 use Rattle.refusals.proofs.ends_rise.Lts as lts
 
 abbrev Inv-loop : tie.InvT-loop
-Inv-loop ends last before₀ i₀ before i = (i ≤ length ends) × (endsRise before (drop i ends) last ≡ endsRise 0 ends last)
+Inv-loop ends last before₀ i₀ before i = (i ≤ length ends) × (endsRiseTo before (drop i ends) last ≡ endsRiseTo 0 ends last)
 
 abbrev μ-loop : tie.MeasureT-loop
 μ-loop ends last before₀ i₀ before i = length ends - i

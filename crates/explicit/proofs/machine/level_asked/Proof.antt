@@ -1,7 +1,7 @@
 -- `explicit::machine::level_asked` meets its contract: each return is a case of the definition, by what its callee ensures.
 -- Assumes nothing.
 use Rattle.rules.proofs.Tests.{tests}
-use Rattle.rules.specs.Explicit.{levelAsked}
+use Rattle.explicit.specs.Meaning.{levelAsked}
 use borrow.Author.Needs.{needs}
 use Rattle.explicit.proofs.machine.level_asked.Statement.{statement}
 use Rattle.explicit.proofs.machine.level_asked.Tie as tie
