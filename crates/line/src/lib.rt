@@ -143,19 +143,19 @@ fn gather(classes: &[u8], from: Position, levels: &mut [u8], order: &mut [u16]) 
 }
 
 // Levels are compared as wider numbers, so that one above the highest fits too.
-fn wide(level: u8) -> u16
+fn wide(level: u8) -> usize
     ensures { λ r. ⌜ r ≡ level ⌝ }
 {
-    level as u16
+    level as usize
 }
 
-fn higher(a: u16, b: u16) -> u16
+fn higher(a: usize, b: usize) -> usize
     ensures { λ r. ⌜ r ≡ max a b ⌝ }
 {
     if a < b { b } else { a }
 }
 
-fn highest_level(levels: &[u8]) -> u16
+fn highest_level(levels: &[u8]) -> usize
     ensures { λ r. ⌜ r ≡ highest (atLevels (now (levels .entry))) ⌝ }
     ensures { λ r. ⌜ r < 256 ⌝ }
 {
@@ -168,7 +168,7 @@ fn highest_level(levels: &[u8]) -> u16
     top
 }
 
-fn lower_odd(low: u16, level: u16) -> u16
+fn lower_odd(low: usize, level: usize) -> usize
     ensures { λ r. ⌜ r ≡ (if isOdd level then min level low else low) ⌝ }
 {
     if level % 2 == 1 {
@@ -181,7 +181,7 @@ fn lower_odd(low: u16, level: u16) -> u16
 }
 
 // The lowest odd level, or `none` where there is none.
-fn lowest_odd_level(levels: &[u8], none: u16) -> u16
+fn lowest_odd_level(levels: &[u8], none: usize) -> usize
     ensures { λ r. ⌜ r ≡ lowestOdd none (atLevels (now (levels .entry))) ⌝ }
 {
     let mut low = none;
@@ -228,7 +228,7 @@ fn reverse(order: &mut [u16], from: Place, to: Place)
 }
 
 // The first place from `from` on that is below the level, or the end.
-fn stretch_end(levels: &[u8], from: Place, level: u16) -> Place
+fn stretch_end(levels: &[u8], from: Place, level: usize) -> Place
     requires { ⌜ from .0 ≤ length (now levels) ⌝ }
     ensures { λ r. ⌜ r .0 ≡ from .0 + span level (drop (from .0) (now (levels .entry))) ⌝ }
 {
@@ -242,8 +242,8 @@ fn stretch_end(levels: &[u8], from: Place, level: u16) -> Place
     Place(i)
 }
 
-// One pass: every longest stretch at the level or above is turned round.
-fn pass(level: u16, levels: &[u8], order: &mut [u16])
+// What one pass does: every longest stretch at the level or above is turned round.
+fn reverse_stretches(level: usize, levels: &[u8], order: &mut [u16])
     requires { ⌜ length (now levels) ≤ length (now order) ⌝ }
     ensures { λ r. ⌜ now (order .exit) ≡ passBy level [] (now (levels .entry)) (now (order .entry)) ⌝ }
 {
@@ -255,8 +255,8 @@ fn pass(level: u16, levels: &[u8], order: &mut [u16])
     }
 }
 
-// A pass, then the next with the level one lower.
-fn passes(level: u16, lowest: u16, levels: &[u8], order: &mut [u16])
+// L2: one reversal pass, which calls the next with the level one lower.
+fn reversal_pass(level: usize, lowest: usize, levels: &[u8], order: &mut [u16])
     requires { ⌜ length (now levels) ≤ length (now order) ⌝ }
     ensures { λ r. ⌜ now (order .exit) ≡ passesBy level lowest (now (levels .entry)) (now (order .entry)) ⌝ }
 {
@@ -266,8 +266,8 @@ fn passes(level: u16, lowest: u16, levels: &[u8], order: &mut [u16])
     if level < lowest {
         return;
     }
-    pass(level, levels, order);
-    passes(level - 1, lowest, levels, order);
+    reverse_stretches(level, levels, order);
+    reversal_pass(level - 1, lowest, levels, order);
 }
 
 // The order of a line, given its own classes and levels, with a work buffer for the line's levels.
@@ -291,7 +291,7 @@ fn order_with(
     let kept = &work[..count];
     let top = highest_level(kept);
     let lowest = lowest_odd_level(kept, top + 1);
-    passes(top, lowest, kept, order);
+    reversal_pass(top, lowest, kept, order);
     count
 }
 

@@ -15,7 +15,7 @@ use Rattle.rules.specs.Paragraph.{P1}
 use Rattle.rules.specs.Refusals.{Check, sound, refuse, _andThen_, isEmpty, checkSome, walk, checksOfCut}
 use Rattle.rules.specs.Jobs.{Answer, accepted, refused, answered, whereSound, cutAnswer, cutPart}
 use Rattle.rules.proofs.Lists.{drop-next}
-use Rattle.melvorash.proofs.JobLaws.{accepted-value, never-both}
+use Rattle.melvorash.specs.Answers.{partLength}
 
 -- ---- the definitions' equations
 walk-one : (room at c : ℕ) (cs : List ℕ) → walk (suc room) at (c ∷ cs) ≡ (if isUnknown c then refuse 2 at else if isParagraphEnd c then sound else walk room (suc at) cs)
@@ -115,20 +115,11 @@ pub record Part (cs : List ℕ) (n : ℕ) : Type 0 where
   pub within : n ≤ length cs
   pub part : take n cs ≡ cutPart cs
 
-pub part-accepted : (cs : List ℕ) (n : ℕ) → accepted n ≡ cutAnswer cs → Part cs n
+-- the first part of that length is the one that the second form gives
+pub part-given : (cs : List ℕ) (n : ℕ) → n ≡ partLength (cutAnswer cs) → Part cs n
 unfolding cutAnswer cutPart
-part-accepted cs n e = by (checksOfCut cs) refl e
+part-given cs n e = by (checksOfCut cs) refl (e ∙ refl)
   where
-    by : (check : Check) → checksOfCut cs ≡ check → accepted n ≡ answered check (length (P1 cs)) → Part cs n
-    by sound s a =
-        let m : n ≡ length (P1 cs) = accepted-value a in
-        record { within = rw m (P1-within cs); part = rw (s, m) (P1-part cs) }
-    by (refuse number place) s a = absurd (never-both a)
-
-pub part-refused : (cs : List ℕ) (number place : ℕ) → refused number place ≡ cutAnswer cs → [] ≡ cutPart cs
-unfolding cutAnswer cutPart
-part-refused cs number place e = by (checksOfCut cs) refl e
-  where
-    by : (check : Check) → checksOfCut cs ≡ check → refused number place ≡ answered check (length (P1 cs)) → [] ≡ cutPart cs
-    by sound s a = absurd (never-both (sym a))
-    by (refuse k p) s a = rw s
+    by : (check : Check) → checksOfCut cs ≡ check → n ≡ partLength (answered check (length (P1 cs))) → Part cs n
+    by sound s m = record { within = rw m (P1-within cs); part = rw (s, m) (P1-part cs) }
+    by (refuse number place) s m = record { within = omega arith; part = rw (s, m) }

@@ -11,7 +11,7 @@ use Rattle.rules.specs.Classes.{B, isUnknown, isParagraphEnd}
 use Rattle.rules.specs.Paragraph.{P1}
 use Rattle.rules.specs.Refusals.{Check, sound, refuse, _andThen_, isEmpty, refuseWhere, checkSome, walk, checksOfCut}
 use Rattle.rules.specs.Jobs.{Answer, accepted, refused, answered, whereSound, cutAnswer, cutPart}
-use Rattle.melvorash.proofs.CutLaws.{part-refused}
+use Rattle.melvorash.proofs.JobLaws.{never-both}
 
 walk-after : (cs ds es : List ℕ) (room at : ℕ) → walk room at (cs ++ (B ∷ ds)) ≡ walk room at (cs ++ (B ∷ es))
 unfolding walk isUnknown isParagraphEnd
@@ -46,7 +46,12 @@ after-never-bears-on-part cs ds es =
 
 -- the part is empty exactly when the first form refuses
 pub refused-empty : (cs : List ℕ) (number place : ℕ) → cutAnswer cs ≡ refused number place → cutPart cs ≡ []
-refused-empty cs number place e = sym (part-refused cs number place (sym e))
+unfolding cutAnswer cutPart
+refused-empty cs number place e = by (checksOfCut cs) refl e
+  where
+    by : (check : Check) → checksOfCut cs ≡ check → answered check (length (P1 cs)) ≡ refused number place → cutPart cs ≡ []
+    by sound s a = absurd (never-both a)
+    by (refuse k p) s a = rw s
 
 P1-some : (c : ℕ) (cs : List ℕ) → isEmpty (P1 (c ∷ cs)) ≡ false
 unfolding P1

@@ -27,6 +27,11 @@ abbrev pub orderPage : OrderAnswer → Answer
 orderPage (Ordering.Ordered p) = accepted (p .count)
 orderPage (Ordering.Refused r) = refused (numberOf r) (placeOf r)
 
+-- how long a part an answer of Cut gives: the paragraph's length, and 0 where it refuses
+abbrev pub partLength : Answer → ℕ
+partLength (accepted n) = n
+partLength (refused number place) = 0
+
 -- a job that is lent nothing to write: its answer, on the page, is the wanted one
 pub record Answers {R : Type 0} (page : R → Answer) (wanted : Answer) (r : R) : Type 0 where
   pub answer : page r ≡ wanted

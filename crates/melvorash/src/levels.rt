@@ -26,11 +26,11 @@ pub fn resolve_levels(classes: &[u8], request: u8, levels: &mut [u8]) -> BaseAns
 {
     let checked = refusals::check_levels(classes, request, levels.len());
     match checked {
-        Checked::Refused(refusal) => BaseAnswer::Refused(refusal),
+        Checked::Refused(fault) => BaseAnswer::Refused(fault),
         Checked::Sound => {
-            let base = paragraph::base_of(request, classes);
-            resolve::resolve_levels(classes, base, levels);
-            BaseAnswer::Level(base)
+            let used = paragraph::base_of(request, classes);
+            resolve::resolve_levels(classes, used, levels);
+            BaseAnswer::Level(used)
         }
     }
 }

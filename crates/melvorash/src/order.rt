@@ -37,10 +37,10 @@ pub fn order_lines(
 {
     let checked = refusals::check_lines(classes, levels, base, ends, order.len());
     match checked {
-        Checked::Refused(refusal) => OrderAnswer::Refused(refusal),
+        Checked::Refused(fault) => OrderAnswer::Refused(fault),
         Checked::Sound => {
-            let count = line::order_lines(classes, levels, base, ends, order);
-            OrderAnswer::Ordered(Placed { count })
+            let total = line::order_lines(classes, levels, base, ends, order);
+            OrderAnswer::Ordered(Placed { count: total })
         }
     }
 }

@@ -5,7 +5,7 @@ use refusals::Checked;
 use refusals::Refusal;
 ghost use mathlib.Core.Path.{_≡_};
 ghost use Rattle.rules.specs.Jobs.{cutAnswer, cutPart, baseAnswer};
-ghost use Rattle.melvorash.specs.Answers.{cutPage, basePage, Answers};
+ghost use Rattle.melvorash.specs.Answers.{cutPage, basePage, partLength, Answers};
 
 // The paragraph's length. At most 4,096 positions are looked at, and none after the paragraph.
 pub fn cut(classes: &[u8]) -> CutAnswer
@@ -31,15 +31,22 @@ pub fn cut(classes: &[u8]) -> CutAnswer
     CutAnswer::Length(i)
 }
 
-// The paragraph itself, as the first part of the lent classes: empty exactly where `cut` refuses.
+// How long the part is that an answer gives: empty exactly where it refuses.
+fn part_length(answer: CutAnswer) -> usize
+    ensures { λ r. ⌜ r ≡ partLength (cutPage answer) ⌝ }
+{
+    match answer {
+        CutAnswer::Length(length) => length,
+        CutAnswer::Refused(_) => 0,
+    }
+}
+
+// The paragraph itself, as the first part of the lent classes.
 pub fn cut_part(classes: &[u8]) -> &[u8]
     ensures { λ r. ⌜ now r ≡ cutPart (now (classes .entry)) ⌝ }
 {
-    let answer = cut(classes);
-    match answer {
-        CutAnswer::Length(length) => &classes[..length],
-        CutAnswer::Refused(_) => &classes[..0],
-    }
+    let length = part_length(cut(classes));
+    &classes[..length]
 }
 
 // The base level of one paragraph, by its text.
@@ -49,6 +56,9 @@ pub fn base(classes: &[u8]) -> BaseAnswer
     let checked = refusals::check_classes(classes);
     match checked {
         Checked::Refused(refusal) => BaseAnswer::Refused(refusal),
-        Checked::Sound => BaseAnswer::Level(paragraph::base_by_text(classes)),
+        Checked::Sound => {
+            let base = paragraph::base_by_text(classes);
+            BaseAnswer::Level(base)
+        }
     }
 }

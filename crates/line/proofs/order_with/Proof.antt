@@ -41,8 +41,8 @@ add-lowest-odd-level c = search needs
 lowest-odd-level-requires : tie.Need-lowest-odd-level-requires
 lowest-odd-level-requires c κs = search needs
 
-passes-requires : tie.Need-passes-requires
-passes-requires c κs =
+reversal-pass-requires : tie.Need-reversal-pass-requires
+reversal-pass-requires c κs =
     let gathered = c .before .before .before .before .before .before .before .before in
     let n = count-kept gathered in
     let e = length-take-le (gathered .gather .result) (gathered .gather .last .1 .1 .0) (kept-within gathered) in
@@ -63,7 +63,7 @@ returns c =
     let start = r .before .before .before .before .before .before in
     let args = start .args in (
       line-ordered (args .base) (args .from .0) (args .classes .now) (args .levels .now) (args .work .now) _ _ _ _ _ (start .pre .0) (r .reset .ensures) (g .gather .ensures)
-          _ _ _ (highest .highest-level .ensures .0) (passed .before .before .lowest-odd-level .ensures) (passed .passes .ensures),
+          _ _ _ (highest .highest-level .ensures .0) (passed .before .before .lowest-odd-level .ensures) (passed .reversal-pass .ensures),
       work-left (args .base) (args .from .0) (args .classes .now) (args .levels .now) (args .work .now) _ _ _ _ _ (start .pre .0) (r .reset .ensures) (g .gather .ensures),
     )
 
@@ -78,7 +78,7 @@ order-with-spec =
     highest-level-requires
     add-lowest-odd-level
     lowest-odd-level-requires
-    passes-requires
+    reversal-pass-requires
     same-length
     same-length-2
     returns)

@@ -1,12 +1,12 @@
--- `line::pass` meets its contract. The invariant: the places before i are as the pass leaves them, and those from i on as they were. The measure is what is left.
+-- `line::reverse_stretches` meets its contract. The invariant: the places before i are as the pass leaves them, and those from i on as they were. The measure is what is left.
 -- Assumes nothing.
 use Prim.Native.Nat.{_-_}
 use lib.ListN.{length}
 use Rattle.line.proofs.Filling.{Filled, filled-begun}
 use Rattle.line.proofs.PassLaws.{passFrom, stretch-within, next, ended}
 use borrow.Author.Needs.{needs}
-use Rattle.line.proofs.pass.Statement.{statement}
-use Rattle.line.proofs.pass.Tie as tie
+use Rattle.line.proofs.reverse_stretches.Statement.{statement}
+use Rattle.line.proofs.reverse_stretches.Tie as tie
 
 abbrev Inv-loop : tie.InvT-loop
 Inv-loop level levels order₀ i₀ order i = Filled (passFrom level levels order₀ 0) order₀ order i (passFrom level levels order₀ i)
@@ -54,8 +54,8 @@ returns c =
     let args = c .before .before .before .before .args in
     ended (args .level) (args .levels .now) (args .order .now) (search needs) _ _ (c .loop-test .left) (c .before .loop .inv)
 
-pub pass-spec : {M : Type 1} → statement M
-pass-spec =
+pub reverse-stretches-spec : {M : Type 1} → statement M
+reverse-stretches-spec =
     tie.close
     (tie.spec
     Inv-loop

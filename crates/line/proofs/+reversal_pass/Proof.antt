@@ -1,16 +1,16 @@
--- `line::passes` meets its contract: one pass, then the passes from the level one lower. The measure is the level.
+-- `line::reversal_pass` meets its contract: one pass, then the passes from the level one lower. The measure is the level.
 -- Assumes nothing.
 use Rattle.line.proofs.PassLaws.{none-at-zero, none-below, one-then-lower}
 use borrow.Author.Needs.{needs}
 use Prim.Native.Nat.{ℕ, _<_}
 use borrow.Fn.Kinds.{In}
 use borrow.Fn.PlainCycle.{Measures, is, falls, and}
-use Rattle.line.proofs.passes.Reads as passes
-use Rattle.line.proofs.passes.Kinds as passes-kinds
-use Rattle.line.proofs.+passes.Lts-passes as passes-lts
-use Rattle.line.proofs.pass.Reads as pass-reads
-use Rattle.line.proofs.+passes.{statement}
-use Rattle.line.proofs.+passes.Tie.{close}
+use Rattle.line.proofs.reversal_pass.Reads as passes
+use Rattle.line.proofs.reversal_pass.Kinds as passes-kinds
+use Rattle.line.proofs.+reversal_pass.Lts-reversal_pass as passes-lts
+use Rattle.line.proofs.reverse_stretches.Reads as pass-reads
+use Rattle.line.proofs.+reversal_pass.{statement}
+use Rattle.line.proofs.+reversal_pass.Tie.{close}
 
 abbrev μ-passes : Measures 2 passes-kinds.ps ℕ
 μ-passes κs a = a .0
@@ -37,7 +37,7 @@ passes-returns-2 : (t : ℕ) → passes-lts.Need-returns-2 (
 ) (passes-at t) passes.Post
 passes-returns-2 t c = none-below _ _ _ _ (c .if2 .taken)
 
-passes-pass-requires : (t : ℕ) → passes-lts.Need-pass-requires (
+passes-pass-requires : (t : ℕ) → passes-lts.Need-reverse-stretches-requires (
   pass-reads.Asked,
   pass-reads.Learnt,
   passes-below t,
@@ -45,7 +45,7 @@ passes-pass-requires : (t : ℕ) → passes-lts.Need-pass-requires (
 ) (passes-at t) passes.Post
 passes-pass-requires t c κs = search needs
 
-passes-sub-passes : (t : ℕ) → passes-lts.Need-sub-passes (
+passes-sub-passes : (t : ℕ) → passes-lts.Need-sub-reversal-pass (
   pass-reads.Asked,
   pass-reads.Learnt,
   passes-below t,
@@ -53,7 +53,7 @@ passes-sub-passes : (t : ℕ) → passes-lts.Need-sub-passes (
 ) (passes-at t) passes.Post
 passes-sub-passes t c = search needs
 
-passes-passes-requires : (t : ℕ) → passes-lts.Need-passes-requires (
+passes-passes-requires : (t : ℕ) → passes-lts.Need-reversal-pass-requires (
   pass-reads.Asked,
   pass-reads.Learnt,
   passes-below t,
@@ -79,10 +79,10 @@ passes-returns-3 t c =
     let called = c .before .before in
     let passed = called .before .before .before .before in
     let tested = passed .before .before in
-    one-then-lower _ _ _ _ _ _ (tested .before .if1 .left) (tested .if2 .left) (passed .pass .ensures) (called .passes .ensures)
+    one-then-lower _ _ _ _ _ _ (tested .before .if1 .left) (tested .if2 .left) (passed .reverse-stretches .ensures) (called .reversal-pass .ensures)
 
-pub +passes-spec : {M : Type 1} → statement M
-+passes-spec = close μ-passes λ t. passes-lts.spec (
+pub +reversal-pass-spec : {M : Type 1} → statement M
++reversal-pass-spec = close μ-passes λ t. passes-lts.spec (
   pass-reads.Asked,
   pass-reads.Learnt,
   passes-below t,
