@@ -16,12 +16,12 @@ pub fn explicit_levels(classes: &[u8], base: u8, levels: &mut [u8])
     ensures { λ _. ⌜ now (levels .exit) ≡ over (explicitLevels base (X1 base) (now (classes .entry))) (now (levels .entry)) ⌝ }
 {
     let mut machine = Machine::new(base);
-    let mut i: usize = 0;
-    while i < classes.len() {
-        let class = classes[i];
-        levels[i] = machine.level_here(base, class);
+    let mut at: usize = 0;
+    while at < classes.len() {
+        let class = classes[at];
+        levels[at] = machine.level_here(base, class);
         machine = machine.step(class);
-        i += 1;
+        at += 1;
     }
 }
 

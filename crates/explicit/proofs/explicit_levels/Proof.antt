@@ -13,12 +13,12 @@ use Rattle.explicit.proofs.explicit_levels.Statement.{statement}
 use Rattle.explicit.proofs.explicit_levels.Tie as tie
 
 abbrev Inv-loop : tie.InvT-loop
-Inv-loop classes base levels₀ machine₀ i₀ levels machine i =
-    Walk classes machine i
-    × Written (explicitLevels base (X1 base) classes) levels₀ levels i (explicitLevels base (meaning machine) (drop i classes))
+Inv-loop classes base levels₀ machine₀ at₀ levels machine at =
+    Walk classes machine at
+    × Written (explicitLevels base (X1 base) classes) levels₀ levels at (explicitLevels base (meaning machine) (drop at classes))
 
 abbrev μ-loop : tie.MeasureT-loop
-μ-loop classes base levels₀ machine₀ i₀ levels machine i = length classes - i
+μ-loop classes base levels₀ machine₀ at₀ levels machine at = length classes - at
 
 new-requires : tie.Need-new-requires Inv-loop μ-loop
 new-requires c κs = search needs
@@ -38,8 +38,8 @@ slice-write-levels c = omega arith
 step-requires : tie.Need-step-requires Inv-loop μ-loop
 step-requires c κs = (c .before .before .before .loop .inv .0 .sound, omega arith)
 
-add-i : tie.Need-add-i Inv-loop μ-loop
-add-i c = search needs
+add-at : tie.Need-add-at Inv-loop μ-loop
+add-at c = search needs
 
 loop-less : tie.Need-loop-less Inv-loop μ-loop
 loop-less c = omega arith
@@ -71,7 +71,7 @@ explicit-levels-spec =
     level-here-requires
     slice-write-levels
     step-requires
-    add-i
+    add-at
     loop-less
     loop-again
     same-length
