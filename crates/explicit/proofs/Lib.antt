@@ -3,3 +3,4 @@ pub mod MachineLaws
 pub mod Written
 pub mod ExplicitLaws
 pub mod WalkLaws
+pub mod Determined

@@ -7,3 +7,4 @@ pub mod TurnLaws
 pub mod PassLaws
 pub mod ItemLaws
 pub mod LineLaws
+pub mod Determined

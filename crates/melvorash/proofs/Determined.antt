@@ -4,7 +4,7 @@ use Prim.Native.Nat.{ℕ}
 use mathlib.Core.Path.{_≡_, refl, sym, ap, _∙_}
 use mathlib.Core.List.{List}
 use Rattle.rules.specs.Jobs.{Answer, accepted, refused, cutAnswer, cutPart, baseAnswer, levelsAnswer, explicitBuffer, resolveBuffer}
-use Rattle.refusals.specs.Page.{numberOf, placeOf}
+use Rattle.rules.proofs.Determined.{determined}
 use Rattle.refusals.proofs.PageLaws.{refusalWith, refusal-told}
 use Rattle.melvorash.specs.Answers.{cutPage, basePage, orderPage, Answers, Leaves, OrdersLine, OrdersLines}
 use Rattle.melvorash.specs.declared.answers.CutAnswer.{CutAnswer}
@@ -17,11 +17,11 @@ use Rattle.melvorash.specs.declared.answers.OrderAnswer.the-variants as 
 -- a page that some function reads back tells its answers apart
 module _ {R : Type 0} (page : R → Answer) (back : Answer → R) (reads : (r : R) → back (page r) ≡ r) where
   pub answers-determined : {wanted : Answer} {r s : R} → Answers page wanted r → Answers page wanted s → r ≡ s
-  answers-determined {wanted} {r} {s} p q = sym (reads r) ∙ ap back (p .answer ∙ sym (q .answer)) ∙ reads s
+  answers-determined {wanted} {r} {s} p q = sym (reads r) ∙ ap back (determined (p .answer) (q .answer)) ∙ reads s
 
   pub leaves-determined : {wanted : Answer} {left : List ℕ} {r s : R} {x y : List ℕ} → Leaves page wanted left r x → Leaves page wanted left s y → (r ≡ s) × (x ≡ y)
   leaves-determined {wanted} {left} {r} {s} p q =
-      (sym (reads r) ∙ ap back (p .answer ∙ sym (q .answer)) ∙ reads s, p .buffer ∙ sym (q .buffer))
+      (sym (reads r) ∙ ap back (determined (p .answer) (q .answer)) ∙ reads s, determined (p .buffer) (q .buffer))
 
 -- ---- each answer, read back off its page
 abbrev cutBack : Answer → CutAnswer
@@ -56,7 +56,7 @@ pub base-determined : (cs : List ℕ) {r s : BaseAnswer} → Answers basePage (b
 base-determined cs p q = answers-determined basePage baseBack base-reads p q
 
 pub cut-part-determined : (cs : List ℕ) {x y : List ℕ} → x ≡ cutPart cs → y ≡ cutPart cs → x ≡ y
-cut-part-determined cs p q = p ∙ sym q
+cut-part-determined cs p q = determined p q
 
 pub explicit-determined : (cs : List ℕ) (request : ℕ) (levels : List ℕ) {r s : BaseAnswer} {x y : List ℕ} → Leaves basePage (levelsAnswer cs request levels) (explicitBuffer cs request levels) r x → Leaves basePage (levelsAnswer cs request levels) (explicitBuffer cs request levels) s y → (r ≡ s) × (x ≡ y)
 explicit-determined cs request levels p q = leaves-determined basePage baseBack base-reads p q

@@ -1,11 +1,15 @@
 -- A refusal is told by its number and place: no two refusals share both. Assumes nothing.
 use Prim.Native.Nat.{ℕ}
-use mathlib.Core.Path.{_≡_, refl, sym, ap₂, _∙_}
+use mathlib.Core.Path.{_≡_, refl, sym, ap, _∙_}
 use lib.Dec.{eqb}
 use Rattle.rules.specs.Choice.{if_then_else_}
-use Rattle.refusals.specs.Page.{numberOf, placeOf}
+use Rattle.rules.specs.Refusals.{Check, sound, refuse}
+use Rattle.rules.proofs.Determined.{determined}
+use Rattle.refusals.specs.Page.{numberOf, placeOf, checkOf}
 use Rattle.refusals.specs.declared.Refusal.{Refusal}
 use Rattle.refusals.specs.declared.Refusal.the-variants.{NoClasses, UnknownClass, TooLong, EarlySeparator, BadBase, ShortLevels, BadLevel, BadLine, ShortOrder, BadEnds}
+use Rattle.refusals.specs.declared.Checked.{Checked}
+use Rattle.refusals.specs.declared.Checked.the-variants.{Sound, Refused}
 
 -- the refusal with a number and a place
 abbrev pub refusalWith : ℕ → ℕ → Refusal
@@ -31,3 +35,16 @@ refusal-told (BadLevel at) = refl
 refusal-told BadLine = refl
 refusal-told ShortOrder = refl
 refusal-told BadEnds = refl
+
+-- ---- any two answers of a check that stand for the same finding are equal
+checkedWith : Check → Checked
+checkedWith sound = Sound
+checkedWith (refuse number place) = Refused (refusalWith number place)
+
+checked-told : (r : Checked) → checkedWith (checkOf r) ≡ r
+unfolding checkedWith
+checked-told Sound = refl
+checked-told (Refused r) = ap Refused (refusal-told r)
+
+pub checked-determined : {wanted : Check} {r s : Checked} → checkOf r ≡ wanted → checkOf s ≡ wanted → r ≡ s
+checked-determined {wanted} {r} {s} p q = sym (checked-told r) ∙ ap checkedWith (determined p q) ∙ checked-told s

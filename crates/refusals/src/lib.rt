@@ -192,16 +192,16 @@ pub(crate) fn check_order(classes: &[u8], levels: &[u8], base: u8) -> Checked
     first_bad_level(classes, levels)
 }
 
-// The checks of one line; `room` is how many places the order buffer has.
+// The checks of one line; `places` is how many places the order buffer has.
 pub fn check_line(
     classes: &[u8],
     levels: &[u8],
     base: u8,
     from: usize,
     to: usize,
-    room: usize,
+    places: usize,
 ) -> Checked
-    ensures { λ r. ⌜ checkOf r ≡ checksOfLine (now (classes .entry)) (now (levels .entry)) base from to room ⌝ }
+    ensures { λ r. ⌜ checkOf r ≡ checksOfLine (now (classes .entry)) (now (levels .entry)) base from to places ⌝ }
 {
     let first = check_order(classes, levels, base);
     if let Checked::Refused(refusal) = first {
@@ -213,15 +213,15 @@ pub fn check_line(
     if classes.len() < to {
         return Checked::Refused(Refusal::BadLine);
     }
-    if room < to - from {
+    if places < to - from {
         return Checked::Refused(Refusal::ShortOrder);
     }
     Checked::Sound
 }
 
 // The checks of all lines.
-pub fn check_lines(classes: &[u8], levels: &[u8], base: u8, ends: &[u16], room: usize) -> Checked
-    ensures { λ r. ⌜ checkOf r ≡ checksOfLines (now (classes .entry)) (now (levels .entry)) base (now (ends .entry)) room ⌝ }
+pub fn check_lines(classes: &[u8], levels: &[u8], base: u8, ends: &[u16], places: usize) -> Checked
+    ensures { λ r. ⌜ checkOf r ≡ checksOfLines (now (classes .entry)) (now (levels .entry)) base (now (ends .entry)) places ⌝ }
 {
     let first = check_order(classes, levels, base);
     if let Checked::Refused(refusal) = first {
@@ -231,7 +231,7 @@ pub fn check_lines(classes: &[u8], levels: &[u8], base: u8, ends: &[u16], room: 
         return Checked::Refused(Refusal::BadEnds);
     }
     if ends_rise(ends, classes.len()) {
-        if room < classes.len() {
+        if places < classes.len() {
             return Checked::Refused(Refusal::ShortOrder);
         }
         return Checked::Sound;

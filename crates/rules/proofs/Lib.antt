@@ -1,4 +1,5 @@
 -- Laws that every crate above cites.
+pub mod Determined
 pub mod Tests
 pub mod Lists
 pub mod Passes
