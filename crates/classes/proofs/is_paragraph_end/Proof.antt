@@ -1,12 +1,11 @@
+-- `classes::is_paragraph_end` meets its contract: one comparison.
+-- Assumes nothing.
 use Rattle.rules.proofs.Tests.{tests}
 use Rattle.rules.specs.Classes.{isParagraphEnd}
 use borrow.Author.Needs.{needs}
 use Rattle.classes.proofs.is_paragraph_end.Statement.{statement}
 use Rattle.classes.proofs.is_paragraph_end.Tie as tie
-use Rattle.classes.proofs.is_paragraph_end.Reads as reads
-use Rattle.classes.proofs.is_paragraph_end.Lts as lts
 
--- src/lib.rt:33:1
 returns : tie.Need-returns
 unfolding isParagraphEnd
 returns c = search (needs, tests)

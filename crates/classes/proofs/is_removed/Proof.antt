@@ -1,31 +1,25 @@
+-- `classes::is_removed` meets its contract: each return is one way through the chain of tests, after what is_opening answered.
+-- Assumes nothing.
 use borrow.Author.Tests.{eq-eqb, ne-eqb}
 use mathlib.Core.Path.{sym, _∙_}
-use Rattle.rules.proofs.Tests.{tests}
 use Rattle.rules.specs.Classes.{isRemoved}
 use borrow.Author.Needs.{needs}
 use Rattle.classes.proofs.is_removed.Statement.{statement}
 use Rattle.classes.proofs.is_removed.Tie as tie
-use Rattle.classes.proofs.is_removed.Reads as reads
-use Rattle.classes.proofs.is_removed.Lts as lts
-use Rattle.classes.proofs.is_opening.Reads as is-opening-reads
 
--- src/lib.rt:57:8
 is-opening-requires : tie.Need-is-opening-requires
 is-opening-requires c κs = search needs
 
--- src/lib.rt:58:9
 returns : tie.Need-returns
 unfolding isRemoved
 returns c =
     simp (sym (c .before .is-opening .ensures) ∙ c .if1 .taken)
 
--- src/lib.rt:61:9
 returns-2 : tie.Need-returns-2
 unfolding isRemoved
 returns-2 c =
     simp (sym (c .before .before .is-opening .ensures) ∙ c .before .if1 .left, eq-eqb _ _ (c .if2 .taken))
 
--- src/lib.rt:54:1
 returns-3 : tie.Need-returns-3
 unfolding isRemoved
 returns-3 c =

@@ -1,12 +1,11 @@
+-- `classes::is_unknown` meets its contract: one comparison.
+-- Assumes nothing.
 use Rattle.rules.proofs.Tests.{tests}
 use Rattle.rules.specs.Classes.{isUnknown}
 use borrow.Author.Needs.{needs}
 use Rattle.classes.proofs.is_unknown.Statement.{statement}
 use Rattle.classes.proofs.is_unknown.Tie as tie
-use Rattle.classes.proofs.is_unknown.Reads as reads
-use Rattle.classes.proofs.is_unknown.Lts as lts
 
--- src/lib.rt:27:1
 returns : tie.Need-returns
 unfolding isUnknown
 returns c = search (needs, tests)

@@ -1,3 +1,5 @@
+-- `paragraph::first_strong` meets its contract: the invariant is that the first strong class from i on is the first of all.
+-- Assumes nothing.
 use Prim.Native.Nat.{_≤_, _-_}
 use mathlib.Core.Path.{_≡_, refl}
 use lib.ListN.{length, drop}
@@ -8,9 +10,6 @@ use Rattle.paragraph.proofs.BaseLaws.{search-found, search-on, search-n
 use borrow.Author.Needs.{needs}
 use Rattle.paragraph.proofs.first_strong.Statement.{statement}
 use Rattle.paragraph.proofs.first_strong.Tie as tie
-use Rattle.paragraph.proofs.first_strong.Reads as reads
-use Rattle.paragraph.proofs.first_strong.Lts as lts
-use Rattle.classes.proofs.is_strong.Reads as is-strong-reads
 
 abbrev Inv-loop : tie.InvT-loop
 Inv-loop classes i₀ i = (i ≤ length classes) × (P2 (drop i classes) ≡ P2 classes)
@@ -18,33 +17,26 @@ Inv-loop classes i₀ i = (i ≤ length classes) × (P2 (drop i classes) ≡ P2 
 abbrev μ-loop : tie.MeasureT-loop
 μ-loop classes i₀ i = length classes - i
 
--- src/lib.rt:19:5
 loop-holds : tie.Need-loop-holds Inv-loop μ-loop
 loop-holds c = (omega arith, refl)
 
--- src/lib.rt:20:21
 shared-slice-read-class : tie.Need-shared-slice-read-class Inv-loop μ-loop
 shared-slice-read-class c = search needs
 
--- src/lib.rt:21:12
 is-strong-requires : tie.Need-is-strong-requires Inv-loop μ-loop
 is-strong-requires c κs = search needs
 
--- src/lib.rt:22:13
 returns : tie.Need-returns Inv-loop μ-loop
 returns c =
     search-found _ _ _ (c .before .before .before .before .loop .inv .1) (c .before .before .before .loop-test .taken)
     (known (c .before .is-strong .ensures) (c .if1 .taken))
 
--- src/lib.rt:24:9
 add-i : tie.Need-add-i Inv-loop μ-loop
 add-i c = search needs
 
--- src/lib.rt:19:5
 loop-less : tie.Need-loop-less Inv-loop μ-loop
 loop-less c = search needs
 
--- src/lib.rt:19:5
 loop-again : tie.Need-loop-again Inv-loop μ-loop
 loop-again c = (
   omega arith,
@@ -52,7 +44,6 @@ loop-again c = (
       (known (c .before .is-strong .ensures) (c .if1 .left)),
 )
 
--- src/lib.rt:15:1
 returns-2 : tie.Need-returns-2 Inv-loop μ-loop
 returns-2 c = search-none _ _ _ (c .before .loop .inv .1) (c .loop-test .left)
 

@@ -1,24 +1,19 @@
+-- `refusals::check_classes` meets its contract: each return is one way through the checks in turn.
+-- Assumes nothing.
 use Rattle.refusals.proofs.CheckLaws.{classes-none, classes-long, classes-faults}
 use borrow.Author.Needs.{needs}
 use Rattle.refusals.proofs.check_classes.Statement.{statement}
 use Rattle.refusals.proofs.check_classes.Tie as tie
-use Rattle.refusals.proofs.check_classes.Reads as reads
-use Rattle.refusals.proofs.check_classes.Lts as lts
-use Rattle.refusals.proofs.first_fault.Reads as first-fault-reads
 
--- src/lib.rt:72:9
 returns : tie.Need-returns
 returns c = classes-none _ (c .if1 .taken)
 
--- src/lib.rt:75:9
 returns-2 : tie.Need-returns-2
 returns-2 c = classes-long _ (c .before .if1 .left) (c .if2 .taken)
 
--- src/lib.rt:77:5
 first-fault-requires : tie.Need-first-fault-requires
 first-fault-requires c κs = search needs
 
--- src/lib.rt:68:1
 returns-3 : tie.Need-returns-3
 returns-3 c = classes-faults _ _ (c .before .before .if1 .left) (c .before .if2 .left) (c .first-fault .ensures)
 

@@ -1,3 +1,5 @@
+-- `refusals::check_levels` meets its contract: each return rewrites the checks with what was found on the way.
+-- Assumes nothing.
 use mathlib.Core.Path.{sym, _∙_, ap}
 use borrow.Author.Tests.{lt-ltb, le-ltb}
 use Rattle.rules.specs.Refusals.{checksOfLevels, checkRequest, checkLevelRoom}
@@ -5,19 +7,13 @@ use Rattle.refusals.specs.Page.{checkOf}
 use borrow.Author.Needs.{needs}
 use Rattle.refusals.proofs.check_levels.Statement.{statement}
 use Rattle.refusals.proofs.check_levels.Tie as tie
-use Rattle.refusals.proofs.check_levels.Reads as reads
-use Rattle.refusals.proofs.check_levels.Lts as lts
-use Rattle.refusals.proofs.check_classes.Reads as check-classes-reads
 
--- src/lib.rt:126:9
 check-classes-requires : tie.Need-check-classes-requires
 check-classes-requires c κs = search needs
 
--- src/lib.rt:127:29
 enum-known-first : tie.Need-enum-known-first
 enum-known-first c = search needs
 
--- src/lib.rt:128:9
 returns : tie.Need-returns
 unfolding checksOfLevels
 returns c = rw (sym (c .before .before .before .check-classes .ensures) ∙ ap checkOf (c .before .first .given .1))
@@ -25,17 +21,14 @@ returns c = rw (sym (c .before .before .before .check-classes .ensures) ∙ ap c
 enum-told : tie.Need-enum-told
 enum-told c = search needs
 
--- src/lib.rt:131:9
 returns-2 : tie.Need-returns-2
 unfolding checksOfLevels checkRequest
 returns-2 c = rw (sym (c .before .before .before .check-classes .ensures) ∙ ap checkOf (c .before .enum-told .given .1), lt-ltb _ _ (c .if1 .taken))
 
--- src/lib.rt:134:9
 returns-3 : tie.Need-returns-3
 unfolding checksOfLevels checkRequest checkLevelRoom
 returns-3 c = rw (sym (c .before .before .before .before .check-classes .ensures) ∙ ap checkOf (c .before .before .enum-told .given .1), le-ltb _ _ (c .before .if1 .left), lt-ltb _ _ (c .if2 .taken))
 
--- src/lib.rt:123:1
 returns-4 : tie.Need-returns-4
 unfolding checksOfLevels checkRequest checkLevelRoom
 returns-4 c = rw (sym (c .before .before .before .before .check-classes .ensures) ∙ ap checkOf (c .before .before .enum-told .given .1), le-ltb _ _ (c .before .if1 .left), le-ltb _ _ (c .if2 .left))

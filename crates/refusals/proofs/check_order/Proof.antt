@@ -1,3 +1,5 @@
+-- `refusals::check_order` meets its contract: each return rewrites the checks with what was found on the way.
+-- Assumes nothing.
 use mathlib.Core.Path.{sym, _∙_, ap}
 use borrow.Author.Tests.{lt-ltb, le-ltb}
 use Rattle.rules.specs.Refusals.{checksOfOrder, checkBase, checkLevelRoom}
@@ -5,20 +7,13 @@ use Rattle.refusals.specs.Page.{checkOf}
 use borrow.Author.Needs.{needs}
 use Rattle.refusals.proofs.check_order.Statement.{statement}
 use Rattle.refusals.proofs.check_order.Tie as tie
-use Rattle.refusals.proofs.check_order.Reads as reads
-use Rattle.refusals.proofs.check_order.Lts as lts
-use Rattle.refusals.proofs.check_classes.Reads as check-classes-reads
-use Rattle.refusals.proofs.first_bad_level.Reads as first-bad-level-reads
 
--- src/lib.rt:143:9
 check-classes-requires : tie.Need-check-classes-requires
 check-classes-requires c κs = search needs
 
--- src/lib.rt:144:29
 enum-known-first : tie.Need-enum-known-first
 enum-known-first c = search needs
 
--- src/lib.rt:145:9
 returns : tie.Need-returns
 unfolding checksOfOrder
 returns c = rw (sym (c .before .before .before .check-classes .ensures) ∙ ap checkOf (c .before .first .given .1))
@@ -26,21 +21,17 @@ returns c = rw (sym (c .before .before .before .check-classes .ensures) ∙ ap c
 enum-told : tie.Need-enum-told
 enum-told c = search needs
 
--- src/lib.rt:148:9
 returns-2 : tie.Need-returns-2
 unfolding checksOfOrder checkBase
 returns-2 c = rw (sym (c .before .before .before .check-classes .ensures) ∙ ap checkOf (c .before .enum-told .given .1), lt-ltb _ _ (c .if1 .taken))
 
--- src/lib.rt:151:9
 returns-3 : tie.Need-returns-3
 unfolding checksOfOrder checkBase checkLevelRoom
 returns-3 c = rw (sym (c .before .before .before .before .check-classes .ensures) ∙ ap checkOf (c .before .before .enum-told .given .1), le-ltb _ _ (c .before .if1 .left), lt-ltb _ _ (c .if2 .taken))
 
--- src/lib.rt:153:5
 first-bad-level-requires : tie.Need-first-bad-level-requires
 first-bad-level-requires c κs = search needs
 
--- src/lib.rt:140:1
 returns-4 : tie.Need-returns-4
 unfolding checksOfOrder checkBase checkLevelRoom
 returns-4 c = rw (sym (c .before .before .before .before .before .check-classes .ensures) ∙ ap checkOf (c .before .before .before .enum-told .given .1), le-ltb _ _ (c .before .before .if1 .left), le-ltb _ _ (c .before .if2 .left)) (c .first-bad-level .ensures)

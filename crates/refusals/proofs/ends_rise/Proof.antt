@@ -1,3 +1,5 @@
+-- `refusals::ends_rise` meets its contract: the invariant is that the ends from i on rise from the one before exactly where all of them do.
+-- Assumes nothing.
 use Prim.Native.Nat.{_≤_, _-_}
 use mathlib.Core.Path.{_≡_, refl}
 use lib.ListN.{length, drop}
@@ -7,8 +9,6 @@ use Rattle.refusals.proofs.CheckLaws.{ends-rising, ends-stuck, ends-don
 use borrow.Author.Needs.{needs}
 use Rattle.refusals.proofs.ends_rise.Statement.{statement}
 use Rattle.refusals.proofs.ends_rise.Tie as tie
-use Rattle.refusals.proofs.ends_rise.Reads as reads
-use Rattle.refusals.proofs.ends_rise.Lts as lts
 
 abbrev Inv-loop : tie.InvT-loop
 Inv-loop ends last before₀ i₀ before i = (i ≤ length ends) × (endsRiseTo before (drop i ends) last ≡ endsRiseTo 0 ends last)
@@ -16,42 +16,33 @@ Inv-loop ends last before₀ i₀ before i = (i ≤ length ends) × (endsRiseTo 
 abbrev μ-loop : tie.MeasureT-loop
 μ-loop ends last before₀ i₀ before i = length ends - i
 
--- src/lib.rt:111:5
 loop-holds : tie.Need-loop-holds Inv-loop μ-loop
 loop-holds c = (omega arith, refl)
 
--- src/lib.rt:112:19
 mul-end : tie.Need-mul-end Inv-loop μ-loop
 mul-end c = search needs
 
--- src/lib.rt:112:19
 shared-slice-read-end : tie.Need-shared-slice-read-end Inv-loop μ-loop
 shared-slice-read-end c = search needs
 
--- src/lib.rt:112:19
 cast-end : tie.Need-cast-end Inv-loop μ-loop
 cast-end c = omega (arith, c .shared-slice-known .given (c .before .before .loop .i))
 
--- src/lib.rt:114:13
 returns : tie.Need-returns Inv-loop μ-loop
 returns c = ends-stuck _ _ _ _ _ (c .before .before .loop-test .taken) (c .before .before .before .loop .inv .1) (c .if1 .taken)
 
--- src/lib.rt:117:9
 add-i : tie.Need-add-i Inv-loop μ-loop
 add-i c = search needs
 
--- src/lib.rt:111:5
 loop-less : tie.Need-loop-less Inv-loop μ-loop
 loop-less c = search needs
 
--- src/lib.rt:111:5
 loop-again : tie.Need-loop-again Inv-loop μ-loop
 loop-again c = (
   omega arith,
   ends-rising _ _ _ _ _ (c .before .before .loop-test .taken) (c .before .before .before .loop .inv .1) (c .if1 .left),
 )
 
--- src/lib.rt:106:1
 returns-2 : tie.Need-returns-2 Inv-loop μ-loop
 returns-2 c = ends-done _ _ _ _ _ (c .loop-test .left) (c .before .loop .inv .1)
 

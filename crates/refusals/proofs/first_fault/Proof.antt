@@ -1,3 +1,5 @@
+-- `refusals::first_fault` meets its contract: the invariant is that the first fault from i on is the first of all; each way through the loop is a law of the walk.
+-- Assumes nothing.
 use Rattle.refusals.specs.Page.{checkOf}
 use Prim.Native.Nat.{_≤_, _-_}
 use mathlib.Core.Path.{_≡_, sym, _∙_, refl, ap}
@@ -8,9 +10,6 @@ use Rattle.refusals.proofs.CheckLaws.{walk-step, walk-found, walk-done}
 use borrow.Author.Needs.{needs}
 use Rattle.refusals.proofs.first_fault.Statement.{statement}
 use Rattle.refusals.proofs.first_fault.Tie as tie
-use Rattle.refusals.proofs.first_fault.Reads as reads
-use Rattle.refusals.proofs.first_fault.Lts as lts
-use Rattle.refusals.proofs.fault_at.Reads as fault-at-reads
 
 abbrev Inv-loop : tie.InvT-loop
 Inv-loop classes i₀ i = (i ≤ length classes) × (firstFault i (drop i classes) ≡ firstFault 0 classes)
@@ -18,19 +17,15 @@ Inv-loop classes i₀ i = (i ≤ length classes) × (firstFault i (drop i classe
 abbrev μ-loop : tie.MeasureT-loop
 μ-loop classes i₀ i = length classes - i
 
--- src/lib.rt:57:5
 loop-holds : tie.Need-loop-holds Inv-loop μ-loop
 loop-holds c = (omega arith, refl)
 
--- src/lib.rt:58:13
 fault-at-requires : tie.Need-fault-at-requires Inv-loop μ-loop
 fault-at-requires c κs = search needs
 
--- src/lib.rt:59:33
 enum-known-found : tie.Need-enum-known-found Inv-loop μ-loop
 enum-known-found c = search needs
 
--- src/lib.rt:60:13
 returns : tie.Need-returns Inv-loop μ-loop
 returns c =
     walk-found _ _ _ _ _ (c .before .before .before .before .loop-test .taken)
@@ -40,15 +35,12 @@ returns c =
 enum-told : tie.Need-enum-told Inv-loop μ-loop
 enum-told c = search needs
 
--- src/lib.rt:62:9
 add-i : tie.Need-add-i Inv-loop μ-loop
 add-i c = search needs
 
--- src/lib.rt:57:5
 loop-less : tie.Need-loop-less Inv-loop μ-loop
 loop-less c = search needs
 
--- src/lib.rt:57:5
 loop-again : tie.Need-loop-again Inv-loop μ-loop
 loop-again c = (
   omega arith,
@@ -57,7 +49,6 @@ loop-again c = (
       (c .before .before .before .before .loop .inv .1),
 )
 
--- src/lib.rt:53:1
 returns-2 : tie.Need-returns-2 Inv-loop μ-loop
 returns-2 c = walk-done _ _ _ (c .loop-test .left) (c .before .loop .inv .1)
 

@@ -1,52 +1,39 @@
+-- `resolve::resolve_in` meets its contract: what was gathered, resolved and put back in turn is the resolved levels.
+-- Assumes nothing.
 use mathlib.Core.Path.{sym}
 use lib.Seq.{length-take-le}
 use Rattle.resolve.proofs.WholeLaws.{within-levels, within-types, fronts-equal, front-low, count-kept, back-room, resolved-whole}
 use borrow.Author.Needs.{needs}
 use Rattle.resolve.proofs.resolve_in.Statement.{statement}
 use Rattle.resolve.proofs.resolve_in.Tie as tie
-use Rattle.resolve.proofs.resolve_in.Reads as reads
-use Rattle.resolve.proofs.resolve_in.Lts as lts
-use Rattle.explicit.proofs.gather.Reads as gather-reads
-use Rattle.resolve.proofs.runs.resolve_kept.Reads as resolve-kept-reads
-use Rattle.resolve.proofs.scatter.put_back.Reads as put-back-reads
 
--- src/lib.rt:16:9
 gather-requires : tie.Need-gather-requires
 gather-requires c κs = search needs
 
--- src/lib.rt:17:24
 slice-relend-prefix-resolve-kept : tie.Need-slice-relend-prefix-resolve-kept
 slice-relend-prefix-resolve-kept c = within-types (c .before .before .before .before .gather .ensures) (c .before .before .before .before .before .before .before .before .before .before .pre .0) (c .before .before .before .before .before .before .before .before .before .before .pre .1) (c .before .before .before .before .before .before .before .before .before .before .pre .2)
 
--- src/lib.rt:17:24
 slice-aggregate-resolve-kept : tie.Need-slice-aggregate-resolve-kept
 slice-aggregate-resolve-kept c = sym (length-take-le _ _ (within-types (c .before .before .before .before .before .gather .ensures) (c .before .before .before .before .before .before .before .before .before .before .before .pre .0) (c .before .before .before .before .before .before .before .before .before .before .before .pre .1) (c .before .before .before .before .before .before .before .before .before .before .before .pre .2)))
 
--- src/lib.rt:17:45
 slice-relend-prefix-resolve-kept-2 : tie.Need-slice-relend-prefix-resolve-kept-2
 slice-relend-prefix-resolve-kept-2 c = within-levels (c .before .before .before .before .before .gather .ensures) (c .before .before .before .before .before .before .before .before .before .before .before .pre .0) (c .before .before .before .before .before .before .before .before .before .before .before .pre .1) (c .before .before .before .before .before .before .before .before .before .before .before .pre .2)
 
--- src/lib.rt:17:45
 slice-aggregate-resolve-kept-2 : tie.Need-slice-aggregate-resolve-kept-2
 slice-aggregate-resolve-kept-2 c = sym (length-take-le _ _ (within-levels (c .before .before .before .before .before .before .gather .ensures) (c .before .before .before .before .before .before .before .before .before .before .before .before .pre .0) (c .before .before .before .before .before .before .before .before .before .before .before .before .pre .1) (c .before .before .before .before .before .before .before .before .before .before .before .before .pre .2)))
 
--- src/lib.rt:17:5
 resolve-kept-requires : tie.Need-resolve-kept-requires
 resolve-kept-requires c κs = (fronts-equal (c .before .before .before .before .before .before .gather .ensures) (c .before .before .before .before .before .before .before .before .before .before .before .before .pre .0) (c .before .before .before .before .before .before .before .before .before .before .before .before .pre .1) (c .before .before .before .before .before .before .before .before .before .before .before .before .pre .2), front-low (c .before .before .before .before .before .before .gather .ensures) (c .before .before .before .before .before .before .before .before .before .before .before .before .pre .0) (c .before .before .before .before .before .before .before .before .before .before .before .before .pre .1) (c .before .before .before .before .before .before .before .before .before .before .before .before .pre .2))
 
--- src/lib.rt:18:5
 put-back-requires : tie.Need-put-back-requires
 put-back-requires c κs = (count-kept (c .before .before .before .before .before .before .before .before .before .before .before .before .gather .ensures) (c .before .before .before .before .before .before .before .before .before .before .before .before .before .before .before .before .before .before .pre .0) (c .before .before .before .before .before .before .before .before .before .before .before .before .before .before .before .before .before .before .pre .1) (c .before .before .before .before .before .before .before .before .before .before .before .before .before .before .before .before .before .before .pre .2), back-room (c .before .before .before .before .before .before .before .before .before .before .before .before .gather .ensures) (c .before .before .before .before .before .before .before .before .before .before .before .before .before .before .before .before .before .before .pre .0) (c .before .before .before .before .before .before .before .before .before .before .before .before .before .before .before .before .before .before .pre .1) (c .before .before .before .before .before .before .before .before .before .before .before .before .before .before .before .before .before .before .pre .2) (c .before .before .before .before .before .resolve-kept .last .1 .0) (c .before .before .before .before .before .resolve-kept .kept .1 .0))
 
--- src/lib.rt:12:1
 same-length : tie.Need-same-length
 same-length c = search needs
 
--- src/lib.rt:12:1
 same-length-2 : tie.Need-same-length-2
 same-length-2 c = search needs
 
--- src/lib.rt:12:1
 returns : tie.Need-returns
 returns c = resolved-whole (c .before .before .before .before .before .before .before .before .before .before .before .before .before .before .before .gather .ensures) (c .before .before .before .before .before .before .before .before .before .before .before .before .before .before .before .before .before .before .before .before .before .pre .0) (c .before .before .before .before .before .before .before .before .before .before .before .before .before .before .before .before .before .before .before .before .before .pre .1) (c .before .before .before .before .before .before .before .before .before .before .before .before .before .before .before .before .before .before .before .before .before .pre .2) (c .before .before .before .before .before .before .before .before .resolve-kept .last .1 .0) _ (c .before .before .before .before .before .before .before .before .resolve-kept .kept .1 .0) (c .before .before .before .before .before .before .before .before .resolve-kept .ensures) (c .before .before .put-back .ensures)
 

@@ -1,4 +1,6 @@
-use mathlib.Core.Path.{_≡_, sym, ap, _∙_}
+-- `melvorash::levels::resolve_levels` meets its contract: a refusal leaves the buffer, and else the checks give what the work asks for.
+-- Assumes nothing.
+use mathlib.Core.Path.{sym, ap, _∙_}
 use Prim.Native.Nat.{ℕ}
 use denote.Ref.{now}
 use Rattle.rules.specs.Jobs.{over, levelsAnswer, resolveBuffer}
@@ -10,46 +12,33 @@ use Rattle.rules.specs.Resolve.{resolvedLevels}
 use borrow.Author.Needs.{needs}
 use Rattle.melvorash.proofs.levels.resolve_levels.Statement.{statement}
 use Rattle.melvorash.proofs.levels.resolve_levels.Tie as tie
-use Rattle.melvorash.proofs.levels.resolve_levels.Reads as reads
-use Rattle.melvorash.proofs.levels.resolve_levels.Lts as lts
-use Rattle.paragraph.proofs.base_of.Reads as base-of-reads
-use Rattle.refusals.proofs.check_levels.Reads as check-levels-reads
-use Rattle.resolve.proofs.resolve_levels.Reads as resolve-levels-reads
 
--- src/resolve_levels.rt:12:9
 check-levels-requires : tie.Need-check-levels-requires
 check-levels-requires c κs = search needs
 
--- src/resolve_levels.rt:14:26
 enum-known-checked : tie.Need-enum-known-checked
 enum-known-checked c = search needs
 
--- src/resolve_levels.rt:16:17
 enum-told : tie.Need-enum-told
 enum-told c = search needs
 
--- src/resolve_levels.rt:16:17
 base-of-requires : tie.Need-base-of-requires
 base-of-requires c κs = search needs
 
--- src/resolve_levels.rt:17:13
 resolve-levels-requires : tie.Need-resolve-levels-requires
 resolve-levels-requires c κs =
     let s = levels-sound _ _ _ (sym (c .before .before .before .before .check-levels .ensures) ∙ ap checkOf (c .before .before .enum-told .given .1)) in
     (rw (c .before .base-of .ensures) (baseOf-small _ _ (s .asked)), s .fits, s .few)
 
--- src/resolve_levels.rt:9:1
 returns : tie.Need-returns
 unfolding levelsAnswer resolveBuffer
 returns c =
     let e = sym (c .before .before .before .check-levels .ensures) ∙ ap checkOf (c .before .checked .given .1) in
     record { answer = answer-refused _ e; buffer = left-refused _ _ e }
 
--- src/resolve_levels.rt:9:1
 same-length : tie.Need-same-length
 same-length c = search needs
 
--- src/resolve_levels.rt:9:1
 returns-2 : tie.Need-returns-2
 unfolding levelsAnswer resolveBuffer
 returns-2 c =

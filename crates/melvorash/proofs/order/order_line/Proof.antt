@@ -1,5 +1,7 @@
+-- `melvorash::order::order_line` meets its contract: a refusal leaves the buffer, and else the checks give what the work asks for; demand 3 follows from what is left.
+-- Assumes nothing.
 use Rattle.melvorash.proofs.OrderLaws.{orders-line}
-use mathlib.Core.Path.{_≡_, sym, ap, _∙_}
+use mathlib.Core.Path.{sym, ap, _∙_}
 use native.Mathlib.Omega.{arith}
 use Rattle.rules.specs.Jobs.{lineAnswer, lineBuffer}
 use Rattle.refusals.specs.Page.{checkOf}
@@ -8,41 +10,30 @@ use Rattle.melvorash.proofs.JobLaws.{answer-refused, answer-sound, left
 use borrow.Author.Needs.{needs}
 use Rattle.melvorash.proofs.order.order_line.Statement.{statement}
 use Rattle.melvorash.proofs.order.order_line.Tie as tie
-use Rattle.melvorash.proofs.order.order_line.Reads as reads
-use Rattle.melvorash.proofs.order.order_line.Lts as lts
-use Rattle.line.proofs.order_line.Reads as order-line-reads
-use Rattle.refusals.proofs.check_line.Reads as check-line-reads
 
--- src/order.rt:19:9
 check-line-requires : tie.Need-check-line-requires
 check-line-requires c κs = search needs
 
--- src/order.rt:21:26
 enum-known-checked : tie.Need-enum-known-checked
 enum-known-checked c = search needs
 
--- src/order.rt:23:75
 enum-told : tie.Need-enum-told
 enum-told c = search needs
 
--- src/order.rt:23:17
 order-line-requires : tie.Need-order-line-requires
 order-line-requires c κs =
     let s = line-sound _ _ _ _ _ _ (sym (c .before .before .before .check-line .ensures) ∙ ap checkOf (c .before .enum-told .given .1)) in
     (omega arith, (s .within, (s .order .fits, (s .order .few, s .fits))))
 
--- src/order.rt:9:1
 returns : tie.Need-returns
 unfolding lineAnswer lineBuffer
 returns c =
     let e = sym (c .before .before .before .check-line .ensures) ∙ ap checkOf (c .before .checked .given .1) in
     orders-line _ _ _ _ _ _ _ _ (record { answer = answer-refused _ e; buffer = left-refused _ _ e })
 
--- src/order.rt:9:1
 same-length : tie.Need-same-length
 same-length c = search needs
 
--- src/order.rt:9:1
 returns-2 : tie.Need-returns-2
 unfolding lineAnswer lineBuffer
 returns-2 c =

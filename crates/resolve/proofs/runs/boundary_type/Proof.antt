@@ -1,3 +1,5 @@
+-- `resolve::runs::boundary_type` meets its contract: the higher of the two levels is the one that is asked.
+-- Assumes nothing.
 use mathlib.Core.Path.{_∙_, ap}
 use native.Mathlib.Omega.{arith}
 use Rattle.rules.specs.Neutral.{levelDirection}
@@ -5,23 +7,16 @@ use Rattle.resolve.proofs.RunLaws.{boundary-is}
 use borrow.Author.Needs.{needs}
 use Rattle.resolve.proofs.runs.boundary_type.Statement.{statement}
 use Rattle.resolve.proofs.runs.boundary_type.Tie as tie
-use Rattle.resolve.proofs.runs.boundary_type.Reads as reads
-use Rattle.resolve.proofs.runs.boundary_type.Lts as lts
-use Rattle.resolve.proofs.runs.level_direction.Reads as level-direction-reads
 
--- src/runs.rt:39:9
 level-direction-requires : tie.Need-level-direction-requires
 level-direction-requires c κs = search needs
 
--- src/runs.rt:39:9
 returns : tie.Need-returns
 returns c = c .level-direction .ensures ∙ ap levelDirection (omega arith) ∙ boundary-is _ _
 
--- src/runs.rt:41:5
 level-direction-requires-2 : tie.Need-level-direction-requires-2
 level-direction-requires-2 c κs = search needs
 
--- src/runs.rt:35:1
 returns-2 : tie.Need-returns-2
 returns-2 c = c .level-direction2 .ensures ∙ ap levelDirection (omega arith) ∙ boundary-is _ _
 

@@ -1,17 +1,14 @@
+-- `resolve::runs::level_direction` meets its contract: one test on the level.
+-- Assumes nothing.
 use borrow.Author.Tests.{eq-eqb, ne-eqb}
 use Rattle.rules.specs.Neutral.{levelDirection}
-use borrow.Author.Needs.{needs}
 use Rattle.resolve.proofs.runs.level_direction.Statement.{statement}
 use Rattle.resolve.proofs.runs.level_direction.Tie as tie
-use Rattle.resolve.proofs.runs.level_direction.Reads as reads
-use Rattle.resolve.proofs.runs.level_direction.Lts as lts
 
--- src/runs.rt:29:9
 returns : tie.Need-returns
 unfolding levelDirection
 returns c = rw (eq-eqb _ _ (c .if1 .taken))
 
--- src/runs.rt:25:1
 returns-2 : tie.Need-returns-2
 unfolding levelDirection
 returns-2 c = rw (ne-eqb _ _ (c .if1 .left))

@@ -1,3 +1,5 @@
+-- `resolve::runs::resolve_run` meets its contract: W, then N, then I, one after the other.
+-- Assumes nothing.
 use Prim.Native.Nat.{ℕ}
 use mathlib.Core.Path.{_∙_, ap}
 use mathlib.Core.List.{List, map}
@@ -7,33 +9,22 @@ use Rattle.rules.specs.Resolve.{resolveRun}
 use borrow.Author.Needs.{needs}
 use Rattle.resolve.proofs.runs.resolve_run.Statement.{statement}
 use Rattle.resolve.proofs.runs.resolve_run.Tie as tie
-use Rattle.resolve.proofs.runs.resolve_run.Reads as reads
-use Rattle.resolve.proofs.runs.resolve_run.Lts as lts
-use Rattle.neutral.proofs.implicit_levels.Reads as implicit-levels-reads
-use Rattle.neutral.proofs.resolve_neutrals.Reads as resolve-neutrals-reads
-use Rattle.weak.proofs.weak.Reads as weak-reads
 
--- src/runs.rt:51:5
 weak-requires : tie.Need-weak-requires
 weak-requires c κs = search needs
 
--- src/runs.rt:52:5
 resolve-neutrals-requires : tie.Need-resolve-neutrals-requires
 resolve-neutrals-requires c κs = search needs
 
--- src/runs.rt:53:5
 implicit-levels-requires : tie.Need-implicit-levels-requires
 implicit-levels-requires c κs = search needs
 
--- src/runs.rt:46:1
 same-length : tie.Need-same-length
 same-length c = search needs
 
--- src/runs.rt:46:1
 same-length-2 : tie.Need-same-length-2
 same-length-2 c = search needs
 
--- src/runs.rt:46:1
 returns : tie.Need-returns
 unfolding resolveRun
 returns c =

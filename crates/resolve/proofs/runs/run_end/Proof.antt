@@ -1,11 +1,11 @@
+-- `resolve::runs::run_end` meets its contract: the invariant is that from `from` to i there is one level.
+-- Assumes nothing.
 use Prim.Native.Nat.{_-_}
 use lib.ListN.{length}
 use Rattle.resolve.proofs.RunLaws.{Running, run-begun, run-on, run-other, run-last}
 use borrow.Author.Needs.{needs}
 use Rattle.resolve.proofs.runs.run_end.Statement.{statement}
 use Rattle.resolve.proofs.runs.run_end.Tie as tie
-use Rattle.resolve.proofs.runs.run_end.Reads as reads
-use Rattle.resolve.proofs.runs.run_end.Lts as lts
 
 abbrev Inv-loop : tie.InvT-loop
 Inv-loop levels from i₀ i = Running levels from i
@@ -13,51 +13,39 @@ Inv-loop levels from i₀ i = Running levels from i
 abbrev μ-loop : tie.MeasureT-loop
 μ-loop levels from i₀ i = length levels - i
 
--- src/runs.rt:15:5
 loop-holds : tie.Need-loop-holds Inv-loop μ-loop
 loop-holds c = run-begun _ _ (c .pre)
 
--- src/runs.rt:15:11
 add-loop : tie.Need-add-loop Inv-loop μ-loop
 add-loop c = search needs
 
--- src/runs.rt:16:12
 shared-slice-read-if1 : tie.Need-shared-slice-read-if1 Inv-loop μ-loop
 shared-slice-read-if1 c = search needs
 
--- src/runs.rt:16:32
 add-if1 : tie.Need-add-if1 Inv-loop μ-loop
 add-if1 c = search needs
 
--- src/runs.rt:16:25
 shared-slice-read-if1-2 : tie.Need-shared-slice-read-if1-2 Inv-loop μ-loop
 shared-slice-read-if1-2 c = search needs
 
--- src/runs.rt:17:20
 add-result : tie.Need-add-result Inv-loop μ-loop
 add-result c = search needs
 
--- src/runs.rt:17:13
 returns : tie.Need-returns Inv-loop μ-loop
 returns c = run-other _ _ _ (c .before .before .before .before .loop .inv) (c .before .before .before .loop-test .taken) (c .if1 .taken)
 
--- src/runs.rt:19:9
 add-i : tie.Need-add-i Inv-loop μ-loop
 add-i c = search needs
 
--- src/runs.rt:15:5
 loop-less : tie.Need-loop-less Inv-loop μ-loop
 loop-less c = search needs
 
--- src/runs.rt:15:5
 loop-again : tie.Need-loop-again Inv-loop μ-loop
 loop-again c = run-on _ _ _ (c .before .before .before .before .loop .inv) (c .before .before .before .loop-test .taken) (c .if1 .left)
 
--- src/runs.rt:21:5
 add-result-2 : tie.Need-add-result-2 Inv-loop μ-loop
 add-result-2 c = search needs
 
--- src/runs.rt:10:1
 returns-2 : tie.Need-returns-2 Inv-loop μ-loop
 returns-2 c = run-last _ _ _ (c .before .loop .inv) (c .loop-test .left)
 

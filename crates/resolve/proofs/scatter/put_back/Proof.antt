@@ -1,14 +1,10 @@
-use Rattle.resolve.proofs.ScatterLaws.{counted-down}
-use Prim.Native.Nat.{_-_}
-use native.Mathlib.Omega.{arith}
+-- `resolve::scatter::put_back` meets its contract: the invariant is that positions from i on have their levels and those before stand as they were packed.
+-- Assumes nothing.
+use Rattle.resolve.proofs.ScatterLaws.{counted-down, Placing, placing-begun, place-removed, some-left, place-kept, placing-done}
 use Rattle.rules.proofs.Tests.{known}
-use Rattle.resolve.proofs.ScatterLaws.{Placing, placing-begun, left-at-most, place-removed, some-left, place-kept, placing-done}
 use borrow.Author.Needs.{needs}
 use Rattle.resolve.proofs.scatter.put_back.Statement.{statement}
 use Rattle.resolve.proofs.scatter.put_back.Tie as tie
-use Rattle.resolve.proofs.scatter.put_back.Reads as reads
-use Rattle.resolve.proofs.scatter.put_back.Lts as lts
-use Rattle.classes.proofs.is_removed.Reads as is-removed-reads
 
 abbrev Inv-loop : tie.InvT-loop
 Inv-loop classes levels₀ count i₀ j₀ levels i j = Placing classes levels₀ count levels i j
@@ -16,59 +12,45 @@ Inv-loop classes levels₀ count i₀ j₀ levels i j = Placing classes levels�
 abbrev μ-loop : tie.MeasureT-loop
 μ-loop classes levels₀ count i₀ j₀ levels i j = i
 
--- src/scatter.rt:18:5
 loop-holds : tie.Need-loop-holds Inv-loop μ-loop
 loop-holds c = placing-begun _ _ _ (c .before .before .pre .0) (c .before .before .pre .1)
 
--- src/scatter.rt:19:9
 sub-i : tie.Need-sub-i Inv-loop μ-loop
 sub-i c = search needs
 
--- src/scatter.rt:20:32
 shared-slice-read-is-removed : tie.Need-shared-slice-read-is-removed Inv-loop μ-loop
 shared-slice-read-is-removed c = search needs
 
--- src/scatter.rt:20:12
 is-removed-requires : tie.Need-is-removed-requires Inv-loop μ-loop
 is-removed-requires c κs = search needs
 
--- src/scatter.rt:21:13
 slice-write-levels : tie.Need-slice-write-levels Inv-loop μ-loop
 slice-write-levels c = search needs
 
--- src/scatter.rt:18:5
 loop-less : tie.Need-loop-less Inv-loop μ-loop
 loop-less c = search needs
 
--- src/scatter.rt:18:5
 loop-again : tie.Need-loop-again Inv-loop μ-loop
 loop-again c = place-removed _ _ _ _ _ _ (counted-down (c .before .before .before .loop-test .taken) (c .before .before .before .before .loop .inv)) (known (c .before .is-removed .ensures) (c .if1 .taken))
 
--- src/scatter.rt:23:13
 sub-j : tie.Need-sub-j Inv-loop μ-loop
 sub-j c = some-left _ _ _ _ _ _ (counted-down (c .before .before .before .loop-test .taken) (c .before .before .before .before .loop .inv)) (known (c .before .is-removed .ensures) (c .if1 .left))
 
--- src/scatter.rt:24:25
 slice-read-levels : tie.Need-slice-read-levels Inv-loop μ-loop
 slice-read-levels c = search needs
 
--- src/scatter.rt:24:13
 slice-write-levels-2 : tie.Need-slice-write-levels-2 Inv-loop μ-loop
 slice-write-levels-2 c = search needs
 
--- src/scatter.rt:18:5
 loop-less-2 : tie.Need-loop-less-2 Inv-loop μ-loop
 loop-less-2 c = search needs
 
--- src/scatter.rt:18:5
 loop-again-2 : tie.Need-loop-again-2 Inv-loop μ-loop
 loop-again-2 c = place-kept _ _ _ _ _ _ (counted-down (c .before .before .before .before .loop-test .taken) (c .before .before .before .before .before .loop .inv)) (known (c .before .before .is-removed .ensures) (c .before .if1 .left))
 
--- src/scatter.rt:11:1
 same-length : tie.Need-same-length Inv-loop μ-loop
 same-length c = search needs
 
--- src/scatter.rt:11:1
 returns : tie.Need-returns Inv-loop μ-loop
 returns c = placing-done _ _ _ _ _ _ (c .before .loop .inv) (c .loop-test .left)
 

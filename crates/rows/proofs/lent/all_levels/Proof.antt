@@ -1,10 +1,10 @@
+-- `rows::lent::all_levels` meets its contract: the index stays within the buffer.
+-- Assumes nothing.
 use Prim.Native.Nat.{_≤_, _-_}
 use lib.ListN.{length}
 use borrow.Author.Needs.{needs}
 use Rattle.rows.proofs.lent.all_levels.Statement.{statement}
 use Rattle.rows.proofs.lent.all_levels.Tie as tie
-use Rattle.rows.proofs.lent.all_levels.Reads as reads
-use Rattle.rows.proofs.lent.all_levels.Lts as lts
 
 abbrev Inv-loop : tie.InvT-loop
 Inv-loop levels i₀ i = i ≤ length levels
@@ -12,31 +12,24 @@ Inv-loop levels i₀ i = i ≤ length levels
 abbrev μ-loop : tie.MeasureT-loop
 μ-loop levels i₀ i = length levels - i
 
--- src/lent.rt:9:5
 loop-holds : tie.Need-loop-holds Inv-loop μ-loop
 loop-holds c = search needs
 
--- src/lent.rt:10:12
 shared-slice-read-if1 : tie.Need-shared-slice-read-if1 Inv-loop μ-loop
 shared-slice-read-if1 c = search needs
 
--- src/lent.rt:11:13
 returns : tie.Need-returns Inv-loop μ-loop
 returns c = search needs
 
--- src/lent.rt:13:9
 add-i : tie.Need-add-i Inv-loop μ-loop
 add-i c = search needs
 
--- src/lent.rt:9:5
 loop-less : tie.Need-loop-less Inv-loop μ-loop
 loop-less c = search needs
 
--- src/lent.rt:9:5
 loop-again : tie.Need-loop-again Inv-loop μ-loop
 loop-again c = search needs
 
--- src/lent.rt:7:1
 returns-2 : tie.Need-returns-2 Inv-loop μ-loop
 returns-2 c = search needs
 

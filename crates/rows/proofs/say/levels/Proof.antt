@@ -1,11 +1,9 @@
+-- `rows::say::levels` meets its contract: the count goes up to n.
+-- Assumes nothing.
 use Prim.Native.Nat.{_≤_, _-_}
 use borrow.Author.Needs.{needs}
 use Rattle.rows.proofs.say.levels.Statement.{statement}
 use Rattle.rows.proofs.say.levels.Tie as tie
-use Rattle.rows.proofs.say.levels.Reads as reads
-use Rattle.rows.proofs.say.levels.Lts as lts
-use Rattle.rows.proofs.say.level_at.Reads as level-at-reads
-use Rattle.rows.proofs.say.text.Reads as text-reads
 
 abbrev Inv-loop : tie.InvT-loop
 Inv-loop levels n i₀ i = i ≤ n
@@ -13,35 +11,27 @@ Inv-loop levels n i₀ i = i ≤ n
 abbrev μ-loop : tie.MeasureT-loop
 μ-loop levels n i₀ i = n - i
 
--- src/say.rt:34:10
 slice-aggregate-text : tie.Need-slice-aggregate-text Inv-loop μ-loop
 slice-aggregate-text c = search needs
 
--- src/say.rt:34:5
 text-requires : tie.Need-text-requires Inv-loop μ-loop
 text-requires c κs = search needs
 
--- src/say.rt:36:5
 loop-holds : tie.Need-loop-holds Inv-loop μ-loop
 loop-holds c = search needs
 
--- src/say.rt:37:9
 level-at-requires : tie.Need-level-at-requires Inv-loop μ-loop
 level-at-requires c κs = search needs
 
--- src/say.rt:38:9
 add-i : tie.Need-add-i Inv-loop μ-loop
 add-i c = search needs
 
--- src/say.rt:36:5
 loop-less : tie.Need-loop-less Inv-loop μ-loop
 loop-less c = search needs
 
--- src/say.rt:36:5
 loop-again : tie.Need-loop-again Inv-loop μ-loop
 loop-again c = search needs
 
--- src/say.rt:33:1
 returns : tie.Need-returns Inv-loop μ-loop
 returns c = search needs
 

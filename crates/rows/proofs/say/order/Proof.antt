@@ -1,11 +1,9 @@
+-- `rows::say::order` meets its contract: the count goes up to n.
+-- Assumes nothing.
 use Prim.Native.Nat.{_≤_, _-_}
 use borrow.Author.Needs.{needs}
 use Rattle.rows.proofs.say.order.Statement.{statement}
 use Rattle.rows.proofs.say.order.Tie as tie
-use Rattle.rows.proofs.say.order.Reads as reads
-use Rattle.rows.proofs.say.order.Lts as lts
-use Rattle.rows.proofs.say.place_at.Reads as place-at-reads
-use Rattle.rows.proofs.say.text.Reads as text-reads
 
 abbrev Inv-loop : tie.InvT-loop
 Inv-loop order n i₀ i = i ≤ n
@@ -13,35 +11,27 @@ Inv-loop order n i₀ i = i ≤ n
 abbrev μ-loop : tie.MeasureT-loop
 μ-loop order n i₀ i = n - i
 
--- src/say.rt:44:10
 slice-aggregate-text : tie.Need-slice-aggregate-text Inv-loop μ-loop
 slice-aggregate-text c = search needs
 
--- src/say.rt:44:5
 text-requires : tie.Need-text-requires Inv-loop μ-loop
 text-requires c κs = search needs
 
--- src/say.rt:46:5
 loop-holds : tie.Need-loop-holds Inv-loop μ-loop
 loop-holds c = search needs
 
--- src/say.rt:47:9
 place-at-requires : tie.Need-place-at-requires Inv-loop μ-loop
 place-at-requires c κs = search needs
 
--- src/say.rt:48:9
 add-i : tie.Need-add-i Inv-loop μ-loop
 add-i c = search needs
 
--- src/say.rt:46:5
 loop-less : tie.Need-loop-less Inv-loop μ-loop
 loop-less c = search needs
 
--- src/say.rt:46:5
 loop-again : tie.Need-loop-again Inv-loop μ-loop
 loop-again c = search needs
 
--- src/say.rt:43:1
 returns : tie.Need-returns Inv-loop μ-loop
 returns c = search needs
 
