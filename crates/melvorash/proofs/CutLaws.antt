@@ -1,19 +1,18 @@
 -- Cut: its walk, step by step, and what stands after the first paragraph.
 -- Assumes nothing.
-use Prim.Native.Nat.{ℕ, zero, suc, _+_, _-_, _≤_, _<_}
+use Prim.Native.Nat.{ℕ, suc, _+_, _-_, _≤_, _<_}
 use native.Mathlib.Nat.{zero-add}
 use native.Mathlib.Numerals.{add-one}
 use native.Mathlib.Omega.{arith}
-use mathlib.Core.Path.{_≡_, refl, sym, ap, ap₂, _∙_}
+use mathlib.Core.Path.{_≡_, refl, ap, ap₂, _∙_}
 use mathlib.Core.Bool.{Bool, true, false}
-use mathlib.Core.List.{List, [], _∷_, _++_}
+use mathlib.Core.List.{List, [], _∷_}
 use lib.ListN.{length, getD, take, drop, drop-of-length-le}
-use lib.Seq.{take-length}
 use Rattle.rules.specs.Choice.{if_then_else_}
-use Rattle.rules.specs.Classes.{B, isUnknown, isParagraphEnd}
+use Rattle.rules.specs.Classes.{isUnknown, isParagraphEnd}
 use Rattle.rules.specs.Paragraph.{P1}
-use Rattle.rules.specs.Refusals.{Check, sound, refuse, _andThen_, isEmpty, checkSome, walk, checksOfCut}
-use Rattle.rules.specs.Jobs.{Answer, accepted, refused, answered, whereSound, cutAnswer, cutPart}
+use Rattle.rules.specs.Refusals.{Check, sound, refuse, checkSome, walk, checksOfCut}
+use Rattle.rules.specs.Jobs.{accepted, refused, answered, cutAnswer, cutPart}
 use Rattle.rules.proofs.Lists.{drop-next}
 use Rattle.melvorash.specs.Answers.{partLength}
 

@@ -2,15 +2,15 @@
 -- second form's part is empty exactly when the first form refuses. Assumes nothing.
 use Prim.Native.Nat.{ℕ, zero, suc}
 use native.Mathlib.Omega.{arith}
-use mathlib.Core.Path.{_≡_, refl, sym, ap, ap₂, _∙_}
+use mathlib.Core.Path.{_≡_, refl, ap, ap₂}
 use mathlib.Core.Bool.{Bool, true, false}
 use mathlib.Core.List.{List, [], _∷_, _++_}
 use lib.ListN.{length}
 use Rattle.rules.specs.Choice.{if_then_else_}
 use Rattle.rules.specs.Classes.{B, isUnknown, isParagraphEnd}
 use Rattle.rules.specs.Paragraph.{P1}
-use Rattle.rules.specs.Refusals.{Check, sound, refuse, _andThen_, isEmpty, refuseWhere, checkSome, walk, checksOfCut}
-use Rattle.rules.specs.Jobs.{Answer, accepted, refused, answered, whereSound, cutAnswer, cutPart}
+use Rattle.rules.specs.Refusals.{Check, sound, refuse, isEmpty, checkSome, walk, checksOfCut}
+use Rattle.rules.specs.Jobs.{accepted, refused, answered, whereSound, cutAnswer, cutPart}
 use Rattle.melvorash.proofs.JobLaws.{never-both}
 
 walk-after : (cs ds es : List ℕ) (room at : ℕ) → walk room at (cs ++ (B ∷ ds)) ≡ walk room at (cs ++ (B ∷ es))

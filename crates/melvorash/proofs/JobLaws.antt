@@ -4,7 +4,7 @@ use native.Mathlib.Omega.{arith}
 use mathlib.Core.Path.{_≡_, refl, sym, ap}
 use mathlib.Core.List.{List}
 use Rattle.rules.specs.Refusals.{Check, sound, refuse}
-use Rattle.rules.specs.Jobs.{Answer, accepted, refused, answered, whereSound}
+use Rattle.rules.specs.Jobs.{accepted, refused, answered, whereSound}
 
 pub answer-refused : {check : Check} {number place : ℕ} (value : ℕ) → check ≡ refuse number place → refused number place ≡ answered check value
 answer-refused value e = rw e

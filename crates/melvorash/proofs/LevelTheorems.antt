@@ -1,7 +1,7 @@
 -- How high the written levels are, and that Order takes what Resolve wrote. Assumes nothing.
-use Prim.Native.Nat.{ℕ, zero, suc, _+_, _-_, _≤_, _<_}
+use Prim.Native.Nat.{ℕ, suc, _-_, _≤_}
 use native.Mathlib.Omega.{arith}
-use mathlib.Core.Path.{_≡_, refl, sym, ap, ap₂, _∙_}
+use mathlib.Core.Path.{_≡_, refl, sym, ap, _∙_}
 use mathlib.Core.Bool.{Bool, true, false, _||_, not}
 use mathlib.Core.Logic.{_⊎_, inl, inr}
 use mathlib.Core.List.{List, [], _∷_, _++_}
@@ -13,8 +13,8 @@ use Rattle.rules.specs.Classes.{isRemoved}
 use Rattle.rules.specs.Paragraph.{baseOf}
 use Rattle.rules.specs.Explicit.{X1, explicitLevels, kept}
 use Rattle.rules.specs.Resolve.{resolvedLevels}
-use Rattle.rules.specs.Refusals.{Check, sound, refuse, _andThen_, refuseWhere, checkClasses, checkBase, checkLevelRoom, isBadLevel, firstBadLevel, isEmpty, endsRiseTo, checkLine, checkEnds, checkOrderRoom, checksOfLevels, checksOfOrder, checksOfLine, checksOfLines}
-use Rattle.rules.specs.Jobs.{Answer, accepted, refused, answered, whereSound, over, levelsAnswer, explicitBuffer, resolveBuffer, lineAnswer, linesAnswer}
+use Rattle.rules.specs.Refusals.{sound, refuse, _andThen_, refuseWhere, checkBase, checkLevelRoom, isBadLevel, firstBadLevel, isEmpty, endsRiseTo, checkLine, checkEnds, checkOrderRoom, checksOfLevels, checksOfOrder, checksOfLine, checksOfLines}
+use Rattle.rules.specs.Jobs.{accepted, refused, answered, over, levelsAnswer, explicitBuffer, resolveBuffer, lineAnswer, linesAnswer}
 use Rattle.rules.proofs.Passes.{by-test}
 use Rattle.refusals.proofs.SoundLaws.{levels-sound}
 use Rattle.paragraph.proofs.BaseLaws.{baseOf-small}

@@ -1,13 +1,13 @@
 -- From what Order leaves to what it displays: demand 3 for a caller. Assumes nothing.
-use Prim.Native.Nat.{ℕ, _≤_, _<_}
+use Prim.Native.Nat.{ℕ}
 use native.Mathlib.Omega.{arith}
-use mathlib.Core.Path.{_≡_, refl, sym, ap, _∙_}
+use mathlib.Core.Path.{_≡_, sym, _∙_}
 use mathlib.Core.List.{List}
 use lib.ListN.{length, take, drop}
 use lib.Seq.{take-append-seam}
-use Rattle.rules.specs.Line.{lineOrder, lineLevels, allOrders}
-use Rattle.rules.specs.Refusals.{Check, sound, refuse, checksOfLine, checksOfLines}
-use Rattle.rules.specs.Jobs.{Answer, accepted, refused, answered, whereSound, over, lineAnswer, lineBuffer, linesAnswer, linesBuffer}
+use Rattle.rules.specs.Line.{lineOrder, allOrders}
+use Rattle.rules.specs.Refusals.{Check, sound, checksOfLine, checksOfLines}
+use Rattle.rules.specs.Jobs.{Answer, accepted, answered, whereSound, over, lineAnswer, lineBuffer, linesAnswer, linesBuffer}
 use Rattle.refusals.proofs.SoundLaws.{line-sound, lines-sound}
 use Rattle.pairwise.proofs.Theorem.{demand3}
 use Rattle.pairwise.proofs.Lines.{each-displayed}

@@ -1,14 +1,13 @@
 -- Demand 3 for all lines of a paragraph: each line's part of the order displays that line. Assumes nothing.
-use Prim.Native.Nat.{ℕ, suc, _≤_, _<_}
+use Prim.Native.Nat.{ℕ, _≤_, _<_}
 use native.Mathlib.Omega.{arith}
-use mathlib.Core.Path.{_≡_, refl, sym}
-use mathlib.Core.Bool.{Bool, true, false}
-use mathlib.Core.List.{List, [], _∷_, _++_}
+use mathlib.Core.Path.{_≡_, refl}
+use mathlib.Core.Bool.{true, false}
+use mathlib.Core.List.{List, [], _∷_}
 use borrow.Author.Tests.{eqb-true, ltb-true}
-use lib.Dec.{eqb, ltb}
-use lib.ListN.{length, take, drop}
+use lib.Dec.{ltb}
+use lib.ListN.{length}
 use lib.Seq.{take-append-seam, drop-append-seam}
-use Rattle.rules.specs.Choice.{if_then_else_}
 use Rattle.rules.specs.Line.{lineOrder, allOrders}
 use Rattle.rules.specs.Refusals.{endsRiseTo}
 use Rattle.rules.proofs.Passes.{by-test}

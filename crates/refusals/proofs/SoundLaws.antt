@@ -1,7 +1,7 @@
 -- What is known of an input once the checks of a job found nothing wrong. Assumes nothing.
-use Prim.Native.Nat.{ℕ, suc, _-_, _≤_, _<_}
+use Prim.Native.Nat.{ℕ, _-_, _≤_, _<_}
 use native.Mathlib.Omega.{arith}
-use mathlib.Core.Path.{_≡_, refl, sym, _∙_}
+use mathlib.Core.Path.{_≡_, refl}
 use mathlib.Core.Bool.{Bool, true, false, _||_, not}
 use mathlib.Core.List.{List}
 use borrow.Author.Tests.{ltb-false, leb-false, not-false}

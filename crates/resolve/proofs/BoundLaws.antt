@@ -1,13 +1,13 @@
 -- No resolved level passes 62: what Resolve writes, Order never refuses with 7. Assumes nothing.
-use Prim.Native.Nat.{ℕ, zero, suc, _+_, _≤_, _<_}
+use Prim.Native.Nat.{ℕ, zero, suc, _+_, _≤_}
 use native.Mathlib.Omega.{arith}
 use mathlib.Core.Path.{_≡_, refl, sym, ap, _∙_}
-use mathlib.Core.Bool.{Bool, true, false, not}
-use mathlib.Core.List.{List, [], _∷_, _++_, map, tail}
+use mathlib.Core.Bool.{true, false}
+use mathlib.Core.List.{List, [], _∷_, _++_, map}
 use borrow.Author.Tests.{le-ltb}
-use lib.Dec.{eqb, ltb}
+use lib.Dec.{eqb}
 use lib.ListN.{length, getD, take, drop, length-append, length-take, length-drop}
-use Rattle.rules.specs.Choice.{if_then_else_, headOr}
+use Rattle.rules.specs.Choice.{headOr}
 use Rattle.rules.specs.Classes.{isRemoved}
 use Rattle.rules.specs.Explicit.{X1, explicitLevels, explicitTypes, kept, putBack}
 use Rattle.rules.specs.Runs.{oneLonger, runLengths, boundaryType}
@@ -15,7 +15,7 @@ use Rattle.rules.specs.Implicit.{implicitLevel}
 use Rattle.rules.specs.Weak.{weak}
 use Rattle.rules.specs.Neutral.{N1, N2}
 use Rattle.rules.specs.Resolve.{resolveRun, resolveRuns, resolveKept, resolvedLevels}
-use Rattle.rules.specs.Refusals.{Check, sound, refuse, isBadLevel, firstBadLevel}
+use Rattle.rules.specs.Refusals.{sound, isBadLevel, firstBadLevel}
 use Rattle.rules.proofs.Passes.{by-test}
 use Rattle.explicit.proofs.ExplicitLaws.{length-levels, length-kept-types, explicit-at-most-61}
 use Rattle.weak.proofs.WeakLaws.{length-weak}

@@ -1,8 +1,7 @@
 -- The laws of X10: how the end of a run is found, and the direction of a boundary.
 -- Assumes nothing.
-use Prim.Native.Nat.{ℕ, zero, suc, _+_, _-_, _≤_, _<_, max}
+use Prim.Native.Nat.{ℕ, suc, _+_, _-_, _≤_, _<_, max}
 use native.Mathlib.Nat.{add-zero}
-use native.Mathlib.Numerals.{add-one}
 use native.Mathlib.Omega.{arith}
 use mathlib.Core.Path.{_≡_, refl, sym, ap, _∙_}
 use mathlib.Core.Bool.{Bool, true, false}
@@ -10,8 +9,7 @@ use mathlib.Core.List.{List, [], _∷_}
 use borrow.Author.Tests.{eq-eqb, ne-eqb}
 use lib.Dec.{eqb}
 use lib.ListN.{length, getD, drop, drop-of-length-le}
-use Rattle.rules.specs.Choice.{if_then_else_, isOdd}
-use Rattle.rules.specs.Classes.{L, R}
+use Rattle.rules.specs.Choice.{if_then_else_}
 use Rattle.rules.specs.Neutral.{levelDirection}
 use Rattle.rules.specs.Runs.{oneLonger, runLengths, boundaryType}
 use Rattle.rules.proofs.Lists.{drop-next}

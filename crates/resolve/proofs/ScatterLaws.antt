@@ -2,13 +2,12 @@
 -- Assumes nothing.
 use Prim.Native.Nat.{ℕ, zero, suc, _+_, _-_, _≤_, _<_}
 use native.Mathlib.Nat.{le-of-suc-le-suc, not-suc-le-zero}
-use native.Mathlib.Numerals.{add-one}
 use native.Mathlib.Omega.{arith}
 use mathlib.Core.Path.{_≡_, refl, sym, ap, ap₂, _∙_}
 use mathlib.Core.Bool.{Bool, true, false}
 use mathlib.Core.List.{List, [], _∷_, _++_, append-assoc, tail}
 use lib.ListN.{length, getD, take, drop, set, length-take, length-set, take-append-drop}
-use lib.Seq.{take-length, drop-length, take-set-le, take-take, getD-take, drop-set-lt, getD-set-same, length-take-le}
+use lib.Seq.{take-length, drop-length, take-set-le, take-take, getD-take, getD-set-same}
 use Rattle.rules.specs.Choice.{if_then_else_, headOr}
 use Rattle.rules.specs.Classes.{isRemoved}
 use Rattle.rules.specs.Explicit.{putBack}
