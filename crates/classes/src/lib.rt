@@ -41,6 +41,9 @@ pub const WS: u8 = 17;
 
 pub const ON: u8 = 18;
 
+// What a level buffer holds at a removed position.
+pub const REMOVED_LEVEL: u8 = 255;
+
 // A number above the highest class is no class.
 pub fn is_unknown(c: u8) -> bool
     ensures { λ r. ⌜ r ≡ isUnknown c ⌝ }

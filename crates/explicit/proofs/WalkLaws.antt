@@ -11,7 +11,7 @@ use Rattle.rules.specs.Explicit.{State, step, kept}
 use Rattle.explicit.specs.declared.machine.Machine.{Machine}
 use Rattle.explicit.specs.Meaning.{Sound, counts, Stands}
 use Rattle.explicit.proofs.ExplicitLaws.{kept-none, kept-removed, kept-kept}
-use Rattle.explicit.proofs.Written.{Written, written-begun, written-more}
+use Rattle.rules.proofs.Filling.{Filled, filled-from, filled-more}
 
 -- the machine after i positions
 pub record Walk (cs : List ℕ) (m : Machine) (i : ℕ) : Type 0 where
@@ -28,12 +28,12 @@ walk-next h t w = record { within = omega arith; sound = t .sound; counted = ome
 
 -- nothing is written yet
 pub phase-begun : (phase : State → List ℕ → List ℕ) (cs before : List ℕ) {s t : State} → s ≡ t
-    → Written (phase t cs) before before 0 (phase s cs)
-phase-begun phase cs before e = written-begun before (ap (λ (s : State). phase s cs) e)
+    → Filled (phase t cs) before before 0 (phase s cs)
+phase-begun phase cs before e = filled-from before (ap (λ (s : State). phase s cs) e)
 
 pub kept-begun : (phase : State → List ℕ → List ℕ) (cs before : List ℕ) {s t : State} → s ≡ t
-    → Written (kept cs (phase t cs)) before before 0 (kept cs (phase s cs))
-kept-begun phase cs before e = written-begun before (ap (λ (s : State). kept cs (phase s cs)) e)
+    → Filled (kept cs (phase t cs)) before before 0 (kept cs (phase s cs))
+kept-begun phase cs before e = filled-from before (ap (λ (s : State). kept cs (phase s cs)) e)
 
 -- a phase that gives each position something by the state before it
 module _ (phase : State → List ℕ → List ℕ) (here : State → ℕ → ℕ) (more : (s : State) (c : ℕ) (cs : List ℕ) → phase s (c ∷ cs) ≡ here s c ∷ phase (step s c) cs) where
@@ -47,25 +47,25 @@ module _ (phase : State → List ℕ → List ℕ) (here : State → ℕ → ℕ
 
   module _ {whole before out : List ℕ} {k i : ℕ} {t : State} (s : State) (cs : List ℕ) (h : i < length cs) (e : t ≡ step s (getD cs i 0)) where
     -- a position written
-    pub phase-written : {v : ℕ} → k < length before → v ≡ here s (getD cs i 0) → Written whole before out k (phase s (drop i cs))
-        → Written whole before (set out k v) (k + 1) (phase t (drop (i + 1) cs))
+    pub phase-written : {v : ℕ} → k < length before → v ≡ here s (getD cs i 0) → Filled whole before out k (phase s (drop i cs))
+        → Filled whole before (set out k v) (k + 1) (phase t (drop (i + 1) cs))
     phase-written room f w =
-        rw e (written-more (phase-at s cs i h ∙ ap (λ (x : ℕ). x ∷ phase (step s (getD cs i 0)) (drop (i + 1) cs)) (sym f)) room w)
+        rw e (filled-more (phase-at s cs i h ∙ ap (λ (x : ℕ). x ∷ phase (step s (getD cs i 0)) (drop (i + 1) cs)) (sym f)) room w)
 
     -- a kept position written
     pub kept-written : {v : ℕ} → isRemoved (getD cs i 0) ≡ false → k < length before → v ≡ here s (getD cs i 0)
-        → Written whole before out k (kept (drop i cs) (phase s (drop i cs)))
-        → Written whole before (set out k v) (k + 1) (kept (drop (i + 1) cs) (phase t (drop (i + 1) cs)))
+        → Filled whole before out k (kept (drop i cs) (phase s (drop i cs)))
+        → Filled whole before (set out k v) (k + 1) (kept (drop (i + 1) cs) (phase t (drop (i + 1) cs)))
     kept-written stays room f w =
         rw e
-        (written-more
+        (filled-more
         (kept-split s cs i h ∙ kept-kept _ _ _ _ stays
         ∙ ap (λ (x : ℕ). x ∷ kept (drop (i + 1) cs) (phase (step s (getD cs i 0)) (drop (i + 1) cs))) (sym f))
         room w)
 
     -- a removed position passed
-    pub kept-passed : isRemoved (getD cs i 0) ≡ true → Written whole before out k (kept (drop i cs) (phase s (drop i cs)))
-        → Written whole before out k (kept (drop (i + 1) cs) (phase t (drop (i + 1) cs)))
+    pub kept-passed : isRemoved (getD cs i 0) ≡ true → Filled whole before out k (kept (drop i cs) (phase s (drop i cs)))
+        → Filled whole before out k (kept (drop (i + 1) cs) (phase t (drop (i + 1) cs)))
     kept-passed goes w =
         let same : kept (drop i cs) (phase s (drop i cs)) ≡ kept (drop (i + 1) cs) (phase (step s (getD cs i 0)) (drop (i + 1) cs)) =
         kept-split s cs i h ∙ kept-removed _ _ _ _ goes in

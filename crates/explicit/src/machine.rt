@@ -8,9 +8,6 @@ ghost use Rattle.explicit.specs.Meaning.{levelAsked, overrideAsked, mean
 // The highest level that a code may take.
 const HIGHEST: u8 = 61;
 
-// What a removed position holds in a level buffer.
-const REMOVED: u8 = 255;
-
 // What a class does in a state. A verdict that opens or closes validly names the level and override to take.
 pub(crate) enum Verdict {
     OpensValid(u8, u8),
@@ -232,7 +229,7 @@ impl Machine {
         ensures { λ r. ⌜ r ≡ levelHere base (meaning self) class ⌝ }
     {
         if classes::is_removed(class) {
-            return REMOVED;
+            return classes::REMOVED_LEVEL;
         }
         if classes::is_paragraph_end(class) {
             return base;

@@ -12,7 +12,7 @@ use Rattle.rules.specs.Classes.{isRemoved}
 use Rattle.rules.specs.Line.{Item, items}
 use Rattle.rules.proofs.Lists.{drop-next}
 use Rattle.line.specs.Gathered.{Gathered, positions, levelsOf}
-use Rattle.line.proofs.Filling.{Filled, filled-begun, filled-reads, filled-next, filled-ended}
+use Rattle.rules.proofs.Filling.{Filled, filled-begun, filled-reads, filled-next, filled-ended}
 
 -- the item at a place of the line
 abbrev pub itemAt : ℕ → List ℕ → ℕ → Item

@@ -1,5 +1,4 @@
 -- Laws that the proofs of this crate cite.
-pub mod Filling
 pub mod ResetLaws
 pub mod GatherLaws
 pub mod ScanLaws

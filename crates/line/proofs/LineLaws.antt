@@ -21,7 +21,7 @@ use Rattle.rules.proofs.Lists.{drop-next}
 use Rattle.line.specs.Gathered.{Gathered, positions, levelsOf, lineItems}
 use Rattle.line.specs.Ordered.{Ordered}
 use Rattle.line.specs.Passes.{atLevels, passesBy}
-use Rattle.line.proofs.Filling.{Filled, filled-begun, filled-part, filled-ended}
+use Rattle.rules.proofs.Filling.{Filled, filled-begun, filled-part, filled-ended}
 use Rattle.line.proofs.ItemLaws.{passes-positions, highest-levels, lowestOdd-levels}
 use Rattle.line.proofs.ResetLaws.{length-L1}
 

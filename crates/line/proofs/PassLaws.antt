@@ -14,7 +14,7 @@ use lib.Seq.{drop-drop, getD-drop, getD-take, getD-append-add, length-take-le, e
 use Rattle.rules.specs.Choice.{if_then_else_}
 use Rattle.rules.proofs.Lists.{le-or-lt}
 use Rattle.line.specs.Passes.{span, passBy, passesBy, Turned}
-use Rattle.line.proofs.Filling.{Filled, filled-stays, filled-part}
+use Rattle.rules.proofs.Filling.{Filled, filled-stays, filled-part}
 
 -- a list reversed, by index
 past-reversed : (l r : List ℕ) (k : ℕ) → getD (reverseAux l r) (length l + k) 0 ≡ getD r k 0

@@ -35,7 +35,8 @@ fn direction(t: u8) -> u8
     t
 }
 
-fn level_direction(level: u8) -> u8
+// The direction of a level, which a boundary of runs takes too.
+pub fn level_direction(level: u8) -> u8
     ensures { λ r. ⌜ r ≡ levelDirection level ⌝ }
 {
     if is_odd(level) {
@@ -90,7 +91,7 @@ pub fn resolve_neutrals(types: &mut [u8], level: u8, sor: u8, eor: u8)
         let t = types[i];
         if classes::is_neutral(t) {
             let end = neutrals_end(types, i);
-            let next = parts::type_at(types, end, eor);
+            let next = parts::element_or(types, end, eor);
             parts::fill(&mut types[i..end], change_neutral(level, before, next));
             i = end;
         } else {

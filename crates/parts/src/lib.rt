@@ -1,9 +1,9 @@
-// What the rules on stretches of types share, over plain slices.
+// What the rules on stretches and runs share, over plain slices.
 ghost use mathlib.Core.Path.{_≡_};
 ghost use lib.ListN.{length, getD, replicate};
 
-// The type at `i`; past the end, what stands there for a run: its end type.
-pub fn type_at(types: &[u8], i: usize, end: u8) -> u8
+// The element at `i`; past the end, what stands there: for the types of a run its end type, for levels the base.
+pub fn element_or(types: &[u8], i: usize, end: u8) -> u8
     ensures { λ r. ⌜ r ≡ getD (now (types .entry)) i end ⌝ }
 {
     if i < types.len() {

@@ -7,12 +7,10 @@ ghost use lib.ListN.{length, getD, drop};
 ghost use Rattle.rules.specs.Refusals.{faultAt, firstFault, checkClasses, isBadLevel, firstBadLevel, endsRiseTo, checksOfLevels, checksOfOrder, checksOfLine, checksOfLines};
 ghost use Rattle.refusals.specs.Page.{checkOf, numberOf, placeOf};
 
-// The longest paragraph, the highest resolved level, and what a level buffer holds where removed.
+// The longest paragraph, and the highest resolved level.
 pub const LONGEST: usize = 4096;
 
 pub const HIGHEST_RESOLVED: u8 = 62;
-
-pub const REMOVED: u8 = 255;
 
 // A place is held where the page gives one.
 pub enum Refusal {
@@ -121,7 +119,7 @@ pub(crate) fn is_bad_level(class: u8, level: u8) -> bool
     ensures { λ r. ⌜ r ≡ isBadLevel class level ⌝ }
 {
     if classes::is_removed(class) {
-        return level != REMOVED;
+        return level != classes::REMOVED_LEVEL;
     }
     HIGHEST_RESOLVED < level
 }

@@ -2,7 +2,6 @@
 ghost use mathlib.Core.Path.{_≡_};
 ghost use Prim.Native.Nat.{ℕ, _<_, _≤_};
 ghost use lib.ListN.{length, getD};
-ghost use Rattle.rules.specs.Neutral.{levelDirection};
 ghost use Rattle.rules.specs.Runs.{boundaryType};
 ghost use Rattle.rules.specs.Resolve.{resolveRun, resolveKept};
 ghost use Rattle.resolve.specs.RunEnd.{RunEnd};
@@ -22,24 +21,14 @@ pub(crate) fn run_end(levels: &[u8], from: usize) -> usize
     i + 1
 }
 
-// The direction of a level.
-pub(crate) fn level_direction(level: u8) -> u8
-    ensures { λ r. ⌜ r ≡ levelDirection level ⌝ }
-{
-    if level % 2 == 1 {
-        return classes::R;
-    }
-    classes::L
-}
-
 // The type at a boundary of runs: the direction of the higher of the two levels.
 pub(crate) fn boundary_type(level: u8, other: u8) -> u8
     ensures { λ r. ⌜ r ≡ boundaryType level other ⌝ }
 {
     if level <= other {
-        return level_direction(other);
+        return neutral::level_direction(other);
     }
-    level_direction(level)
+    neutral::level_direction(level)
 }
 
 // W, N and I on one run.
@@ -64,7 +53,7 @@ pub(crate) fn resolve_kept(types: &mut [u8], levels: &mut [u8], base: u8)
     while i < levels.len() {
         let level = levels[i];
         let end = run_end(levels, i);
-        let next = parts::type_at(levels, end, base);
+        let next = parts::element_or(levels, end, base);
         let sor = boundary_type(before, level);
         let eor = boundary_type(level, next);
         resolve_run(&mut types[i..end], &mut levels[i..end], level, sor, eor);

@@ -18,7 +18,7 @@ pub(crate) fn put_back(classes: &[u8], levels: &mut [u8], count: usize)
     while j < i {
         i -= 1;
         if classes::is_removed(classes[i]) {
-            levels[i] = 255;
+            levels[i] = classes::REMOVED_LEVEL;
         } else {
             j -= 1;
             levels[i] = levels[j];

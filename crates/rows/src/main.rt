@@ -27,7 +27,7 @@ const BY_TEXT: u8 = 2;
 // 18 is the highest class, and 19 is none.
 const NONE: u8 = 19;
 
-const REMOVED: u8 = 255;
+const REMOVED: u8 = classes::REMOVED_LEVEL;
 
 // Document 01's table.
 fn table() {

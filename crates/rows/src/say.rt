@@ -22,7 +22,7 @@ fn wide(n: u16) {
 fn level_at(levels: &[u8], i: usize) {
     if i < levels.len() {
         let level = levels[i];
-        if level == refusals::REMOVED {
+        if level == classes::REMOVED_LEVEL {
             text(b" -");
             return;
         }

@@ -3,3 +3,4 @@ pub mod Determined
 pub mod Tests
 pub mod Lists
 pub mod Passes
+pub mod Filling

@@ -13,7 +13,7 @@ use lib.Seq.{take-all, drop-nil, getD-drop, drop-drop, take-at, length-take-le}
 use borrow.Rule.Slice.PartMut.{midOf, postOf, putMid, same-len-mid, mid-len, drop-put}
 use Rattle.rules.specs.Choice.{if_then_else_, headOr}
 use Rattle.rules.specs.Weak.{afterStretch, stretches}
-use Rattle.rules.proofs.Lists.{take-set-next, drop-next, drop-set-next, take-next}
+use Rattle.rules.proofs.Lists.{take-set-next, drop-next, drop-set-next, take-next, take-put-end}
 
 -- what comes first of what is left is what stands at that place
 pub head-drop : (end : ℕ) (xs : List ℕ) (i : ℕ) → headOr end (drop i xs) ≡ getD xs i end
@@ -259,9 +259,7 @@ module _ {test : ℕ → Bool} {change : ℕ → ℕ → ℕ → ℕ} {end : ℕ
     length-fill = ap length the-fill ∙ length-replicate (e - i) v
 
     take-fill : take e (putMid i (e - i) xs ys) ≡ take i xs ++ ys
-    take-fill =
-        let part : length (take i xs ++ ys) ≡ e = length-append (take i xs) ys ∙ omega (arith, length-take-le i xs (omega (arith, bounds)), length-fill, bounds) in
-        ap (take e) (sym (append-assoc (take i xs) ys (postOf i (e - i) xs))) ∙ take-at (take i xs ++ ys) (postOf i (e - i) xs) e part
+    take-fill = take-put-end xs ys i e (bounds .0) (bounds .1) length-fill
 
     the-stretch : stretches test change before end (drop i xs) ≡ ys ++ stretches test change before end (drop e xs)
     the-stretch =

@@ -115,7 +115,7 @@ pub(crate) fn w4(types: &mut [u8], sor: u8, eor: u8)
     let mut i = 0;
     while i < types.len() {
         let t = types[i];
-        let next = parts::type_at(types, i + 1, eor);
+        let next = parts::element_or(types, i + 1, eor);
         types[i] = change_w4(before, t, next);
         before = t;
         i += 1;
@@ -159,7 +159,7 @@ pub(crate) fn w5(types: &mut [u8], sor: u8, eor: u8)
         let t = types[i];
         if t == classes::ET {
             let end = terminators_end(types, i);
-            let next = parts::type_at(types, end, eor);
+            let next = parts::element_or(types, end, eor);
             parts::fill(&mut types[i..end], change_w5(before, next));
             i = end;
         } else {

@@ -6,7 +6,7 @@ use lib.ListN.{length, drop}
 use Rattle.rules.specs.Explicit.{X1, levelHere, explicitLevels}
 use Rattle.explicit.specs.Meaning.{meaning}
 use Rattle.explicit.proofs.ExplicitLaws.{levels-none, levels-more}
-use Rattle.explicit.proofs.Written.{Written, written-all}
+use Rattle.rules.proofs.Filling.{Filled, filled-all}
 use Rattle.explicit.proofs.WalkLaws.{Walk, walk-begun, walk-next, phase-begun, phase-written, phase-ended}
 use borrow.Author.Needs.{needs}
 use Rattle.explicit.proofs.explicit_levels.Statement.{statement}
@@ -15,7 +15,7 @@ use Rattle.explicit.proofs.explicit_levels.Tie as tie
 abbrev Inv-loop : tie.InvT-loop
 Inv-loop classes base levels₀ machine₀ at₀ levels machine at =
     Walk classes machine at
-    × Written (explicitLevels base (X1 base) classes) levels₀ levels at (explicitLevels base (meaning machine) (drop at classes))
+    × Filled (explicitLevels base (X1 base) classes) levels₀ levels at (explicitLevels base (meaning machine) (drop at classes))
 
 abbrev μ-loop : tie.MeasureT-loop
 μ-loop classes base levels₀ machine₀ at₀ levels machine at = length classes - at
@@ -54,10 +54,10 @@ loop-again c =
     )
 
 same-length : tie.Need-same-length Inv-loop μ-loop
-same-length c = c .before .loop .inv .1 .same
+same-length c = c .before .loop .inv .1 .long
 
 returns : tie.Need-returns Inv-loop μ-loop
-returns c = written-all (c .before .loop .inv .1) (phase-ended (explicitLevels _ _) (levels-none _ _) _ (c .loop-test .left)) (omega arith)
+returns c = filled-all (c .before .loop .inv .1) (phase-ended (explicitLevels _ _) (levels-none _ _) _ (c .loop-test .left)) (omega arith)
 
 pub explicit-levels-spec : {M : Type 1} → statement M
 explicit-levels-spec =

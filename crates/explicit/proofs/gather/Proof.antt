@@ -8,7 +8,7 @@ use lib.ListN.{length, drop}
 use Rattle.rules.specs.Explicit.{X1, levelHere, typeHere, explicitLevels, explicitTypes, kept}
 use Rattle.explicit.specs.Meaning.{meaning}
 use Rattle.explicit.proofs.ExplicitLaws.{levels-more, types-more}
-use Rattle.explicit.proofs.Written.{Written, written-count, written-all}
+use Rattle.rules.proofs.Filling.{Filled, filled-count, filled-all}
 use Rattle.explicit.proofs.WalkLaws.{Walk, walk-begun, walk-next, kept-begun, kept-written, kept-passed, kept-ended}
 use borrow.Author.Needs.{needs}
 use Rattle.explicit.proofs.gather.Statement.{statement}
@@ -17,8 +17,8 @@ use Rattle.explicit.proofs.gather.Tie as tie
 abbrev Inv-loop : tie.InvT-loop
 Inv-loop classes base levels₀ types₀ machine₀ k₀ i₀ levels types machine k i =
     Walk classes machine i × (k ≤ i)
-    × Written (kept classes (explicitLevels base (X1 base) classes)) levels₀ levels k (kept (drop i classes) (explicitLevels base (meaning machine) (drop i classes)))
-    × Written (kept classes (explicitTypes (X1 base) classes)) types₀ types k (kept (drop i classes) (explicitTypes (meaning machine) (drop i classes)))
+    × Filled (kept classes (explicitLevels base (X1 base) classes)) levels₀ levels k (kept (drop i classes) (explicitLevels base (meaning machine) (drop i classes)))
+    × Filled (kept classes (explicitTypes (X1 base) classes)) types₀ types k (kept (drop i classes) (explicitTypes (meaning machine) (drop i classes)))
 
 abbrev μ-loop : tie.MeasureT-loop
 μ-loop classes base levels₀ types₀ machine₀ k₀ i₀ levels types machine k i = length classes - i
@@ -87,18 +87,18 @@ loop-again-2 c =
     )
 
 same-length : tie.Need-same-length Inv-loop μ-loop
-same-length c = c .before .loop .inv .2 .same
+same-length c = c .before .loop .inv .2 .long
 
 same-length-2 : tie.Need-same-length-2 Inv-loop μ-loop
-same-length-2 c = c .before .loop .inv .3 .same
+same-length-2 c = c .before .loop .inv .3 .long
 
 returns : tie.Need-returns Inv-loop μ-loop
 returns c =
     let end = c .loop-test .left in
     record {
-      count = written-count (c .before .loop .inv .2) (kept-ended (explicitLevels _ _) _ end) (omega arith);
-      levels = written-all (c .before .loop .inv .2) (kept-ended (explicitLevels _ _) _ end) (omega arith);
-      types = written-all (c .before .loop .inv .3) (kept-ended (explicitTypes _) _ end) (omega arith);
+      count = filled-count (c .before .loop .inv .2) (kept-ended (explicitLevels _ _) _ end) (omega arith);
+      levels = filled-all (c .before .loop .inv .2) (kept-ended (explicitLevels _ _) _ end) (omega arith);
+      types = filled-all (c .before .loop .inv .3) (kept-ended (explicitTypes _) _ end) (omega arith);
     }
 
 pub gather-spec : {M : Type 1} → statement M

@@ -36,8 +36,8 @@ is-neutral-requires c κs = search needs
 neutrals-end-requires : tie.Need-neutrals-end-requires Inv-loop μ-loop
 neutrals-end-requires c κs = search needs
 
-type-at-requires : tie.Need-type-at-requires Inv-loop μ-loop
-type-at-requires c κs = search needs
+element-or-requires : tie.Need-element-or-requires Inv-loop μ-loop
+element-or-requires c κs = search needs
 
 sub-fill : tie.Need-sub-fill Inv-loop μ-loop
 sub-fill c = search needs
@@ -65,7 +65,7 @@ loop-again c =
     let at = e .before .before .before .before .before .before in
     let level = at .before .before .args .level in
     stretch-filled (at .loop .inv) (e .neutrals-end .ensures)
-    (λ t is. N-same level _ _ t is ∙ ap (λ n. changeN2 level (changeN1 (at .loop .before) n ON)) (sym (c .before .before .before .before .before .type-at .ensures)) ∙ sym (c .before .before .before .change-neutral .ensures))
+    (λ t is. N-same level _ _ t is ∙ ap (λ n. changeN2 level (changeN1 (at .loop .before) n ON)) (sym (c .before .before .before .before .before .element-or .ensures)) ∙ sym (c .before .before .before .change-neutral .ensures))
     (c .before .before .fill .ensures)
 
 add-i : tie.Need-add-i Inv-loop μ-loop
@@ -95,7 +95,7 @@ resolve-neutrals-spec =
     slice-read-t
     is-neutral-requires
     neutrals-end-requires
-    type-at-requires
+    element-or-requires
     sub-fill
     part-fill-start
     part-fill-end

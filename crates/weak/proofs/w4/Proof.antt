@@ -22,11 +22,11 @@ loop-holds c = sweep-begun _ _ _ refl
 slice-read-t : tie.Need-slice-read-t Inv-loop μ-loop
 slice-read-t c = search needs
 
-add-type-at : tie.Need-add-type-at Inv-loop μ-loop
-add-type-at c = search needs
+add-element-or : tie.Need-add-element-or Inv-loop μ-loop
+add-element-or c = search needs
 
-type-at-requires : tie.Need-type-at-requires Inv-loop μ-loop
-type-at-requires c κs = search needs
+element-or-requires : tie.Need-element-or-requires Inv-loop μ-loop
+element-or-requires c κs = search needs
 
 change-w4-requires : tie.Need-change-w4-requires Inv-loop μ-loop
 change-w4-requires c κs = search needs
@@ -44,7 +44,7 @@ loop-again : tie.Need-loop-again Inv-loop μ-loop
 loop-again c =
     let at = c .before .before .before .before in
     sweep-step-in-place (at .before .loop .inv) (at .loop-test .taken)
-    (c .change-w4 .ensures ∙ ap (changeW4 (at .before .loop .before) (getD (at .before .loop .types) (at .before .loop .i) 0)) (c .before .type-at .ensures))
+    (c .change-w4 .ensures ∙ ap (changeW4 (at .before .loop .before) (getD (at .before .loop .types) (at .before .loop .i) 0)) (c .before .element-or .ensures))
     refl
 
 same-length : tie.Need-same-length Inv-loop μ-loop
@@ -61,8 +61,8 @@ w4-spec =
     μ-loop
     loop-holds
     slice-read-t
-    add-type-at
-    type-at-requires
+    add-element-or
+    element-or-requires
     change-w4-requires
     slice-write-types
     add-i

@@ -34,8 +34,8 @@ slice-read-t c = search needs
 terminators-end-requires : tie.Need-terminators-end-requires Inv-loop μ-loop
 terminators-end-requires c κs = search needs
 
-type-at-requires : tie.Need-type-at-requires Inv-loop μ-loop
-type-at-requires c κs = search needs
+element-or-requires : tie.Need-element-or-requires Inv-loop μ-loop
+element-or-requires c κs = search needs
 
 sub-fill : tie.Need-sub-fill Inv-loop μ-loop
 sub-fill c = search needs
@@ -62,7 +62,7 @@ loop-again c =
     let e = c .before .before .before .before .before .before .before in
     let at = e .before .before .before .before .before in
     stretch-filled (at .loop .inv) (e .terminators-end .ensures)
-    (λ t is. W5-same _ _ t is ∙ ap (λ n. changeW5 (at .loop .before) n ET) (sym (c .before .before .before .before .before .type-at .ensures)) ∙ sym (c .before .before .before .change-w5 .ensures))
+    (λ t is. W5-same _ _ t is ∙ ap (λ n. changeW5 (at .loop .before) n ET) (sym (c .before .before .before .before .before .element-or .ensures)) ∙ sym (c .before .before .before .change-w5 .ensures))
     (c .before .before .fill .ensures)
 
 add-i : tie.Need-add-i Inv-loop μ-loop
@@ -91,7 +91,7 @@ w5-spec =
     loop-holds
     slice-read-t
     terminators-end-requires
-    type-at-requires
+    element-or-requires
     sub-fill
     part-fill-start
     part-fill-end

@@ -23,8 +23,8 @@ slice-read-level c = search needs
 run-end-requires : tie.Need-run-end-requires Inv-loop μ-loop
 run-end-requires c κs = search needs
 
-type-at-requires : tie.Need-type-at-requires Inv-loop μ-loop
-type-at-requires c κs = search needs
+element-or-requires : tie.Need-element-or-requires Inv-loop μ-loop
+element-or-requires c κs = search needs
 
 boundary-type-requires : tie.Need-boundary-type-requires Inv-loop μ-loop
 boundary-type-requires c κs = search needs
@@ -58,7 +58,7 @@ loop-less c = search needs
 
 loop-again : tie.Need-loop-again Inv-loop μ-loop
 loop-again c =
-    resolving-run (c .before .before .before .before .before .before .before .before .before .before .before .before .before .before .before .loop .inv) _ (c .before .before .before .before .before .before .before .before .before .before .before .run-end .ensures) _ _ _ (c .before .before .before .before .resolve-run .last .0) (c .before .before .before .before .resolve-run .last .1 .0) (c .before .before .before .before .before .before .before .before .before .type-at .ensures)
+    resolving-run (c .before .before .before .before .before .before .before .before .before .before .before .before .before .before .before .loop .inv) _ (c .before .before .before .before .before .before .before .before .before .before .before .run-end .ensures) _ _ _ (c .before .before .before .before .resolve-run .last .0) (c .before .before .before .before .resolve-run .last .1 .0) (c .before .before .before .before .before .before .before .before .before .element-or .ensures)
     (c .before .before .before .before .before .before .before .before .boundary-type .ensures) (c .before .before .before .before .before .before .before .boundary-type2 .ensures) (c .before .before .before .before .resolve-run .kept .0) (c .before .before .before .before .resolve-run .kept .1 .0) (c .before .before .before .before .resolve-run .ensures)
 
 same-length : tie.Need-same-length Inv-loop μ-loop
@@ -79,7 +79,7 @@ resolve-kept-spec =
     loop-holds
     slice-read-level
     run-end-requires
-    type-at-requires
+    element-or-requires
     boundary-type-requires
     boundary-type-requires-2
     sub-resolve-run

@@ -62,3 +62,20 @@ module _ (whole out₀ out : List ℕ) (k : ℕ) where
         written = ap (λ (x : List ℕ). x ++ rest) t ∙ append-assoc (take k out) part rest ∙ f .written;
         beyond = d ∙ as-it-was;
       }
+
+-- ---- the same, where what is left is known by an equation
+pub filled-from : (before : List ℕ) {whole rest : List ℕ} → rest ≡ whole → Filled whole before before 0 rest
+filled-from before e = record { long = refl; written = e; beyond = refl }
+
+pub filled-more : {whole before out : List ℕ} {k v : ℕ} {rest next : List ℕ} → rest ≡ v ∷ next → k < length before → Filled whole before out k rest → Filled whole before (set out k v) (k + 1) next
+filled-more {whole} {before} {out} {k} {v} {rest} {next} e h f = filled-next whole before out k v next (rw (f .long) h) (rw e at f)
+
+module _ {whole before out rest : List ℕ} {k : ℕ} (f : Filled whole before out k rest) (none : rest ≡ []) (within : k ≤ length before) where
+  all : (out ≡ over whole before) × (k ≡ length whole)
+  all = filled-ended whole before out k (rw (f .long) within) (rw none at f)
+
+  pub filled-count : k ≡ length whole
+  filled-count = all .1
+
+  pub filled-all : out ≡ over whole before
+  filled-all = all .0
