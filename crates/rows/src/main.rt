@@ -89,9 +89,9 @@ fn bad_levels_jobs() {
     run::short_levels(b"four positions, and the request", &[R, L, R, L], 3);
 }
 
-// Refusals 5 to 8 of Order of one line.
-fn bad_lines() {
-    say::text(b"one line refused\n");
+// Refusals 6 and 7 of Order of one line.
+fn bad_levels() {
+    say::text(b"lent levels refused\n");
     run::line(b"levels 62 and 255", &[L, PDF], &[62, REMOVED], 0, 0, 2);
     run::line(b"level 63", &[L, PDF], &[63, REMOVED], 0, 0, 2);
     run::line(
@@ -112,6 +112,11 @@ fn bad_lines() {
         2,
     );
     run::line(b"a level short", &[L, PDF], &[0], 0, 0, 2);
+}
+
+// Refusals 5 and 8 of Order of one line.
+fn bad_lines() {
+    say::text(b"base and line refused\n");
     run::line(b"base 2", &[L], &[0], 2, 0, 1);
     run::line(b"base 2, and a level short", &[L, L], &[0], 2, 0, 1);
     run::line(b"a bad level outside the line", &[L, L], &[63, 0], 0, 1, 2);
@@ -211,6 +216,7 @@ fn main() {
     cuts();
     bad_classes();
     bad_levels_jobs();
+    bad_levels();
     bad_lines();
     short_orders();
     bad_ends();
