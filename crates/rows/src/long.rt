@@ -92,27 +92,43 @@ fn ordered(classes: &[u8], levels: &[u8]) {
     }
 }
 
-// 4,096 positions are accepted and 4,097 refused; Cut looks at no more than 4,096.
+// 4,096 positions are accepted.
 fn longest() {
-    let row = [L; 4097];
+    let row = [L; 4096];
     say::text(b"4,096 positions:");
-    resolved(&row[..4096]);
+    resolved(&row);
+    run::cut(b"4,096 positions", &row);
+}
+
+// 4,097 are refused; Cut looks at no more than 4,096.
+fn too_long() {
+    let row = [L; 4097];
     say::text(b"4,097 positions:");
     resolved(&row);
-    run::cut(b"4,096 positions", &row[..4096]);
     run::cut(b"4,097 positions", &row);
-    let mut faulty = [L; 4097];
-    faulty[4096] = 19;
+}
+
+// A fault past the 4,096th position is not looked at.
+fn fault_past_the_longest() {
+    let mut room = [L; 4097];
+    let row: &mut [u8] = &mut room;
+    put(row, 4096, 19);
     say::text(b"4,097 positions, class 19 at the last:");
-    resolved(&faulty);
-    run::cut(b"4,097 positions, class 19 at the last", &faulty);
-    faulty[4095] = 19;
-    run::cut(b"4,097 positions, class 19 at the 4,096th", &faulty);
-    faulty[4095] = B;
-    run::cut(b"4,097 positions, B at the 4,096th", &faulty);
-    faulty[4095] = L;
-    faulty[4096] = B;
-    run::cut(b"4,097 positions, B at the last", &faulty);
+    resolved(row);
+    run::cut(b"4,097 positions, class 19 at the last", row);
+    put(row, 4095, 19);
+    run::cut(b"4,097 positions, class 19 at the 4,096th", row);
+}
+
+// The 4,096th position is the last that may end a paragraph.
+fn end_past_the_longest() {
+    let mut room = [L; 4097];
+    let row: &mut [u8] = &mut room;
+    put(row, 4095, B);
+    run::cut(b"4,097 positions, B at the 4,096th", row);
+    put(row, 4095, L);
+    put(row, 4096, B);
+    run::cut(b"4,097 positions, B at the last", row);
 }
 
 pub(crate) fn edges() {
@@ -120,4 +136,7 @@ pub(crate) fn edges() {
     deepest();
     too_deep();
     longest();
+    too_long();
+    fault_past_the_longest();
+    end_past_the_longest();
 }

@@ -36,13 +36,25 @@ fn table() {
     run::row(b"AL EN", &[AL, EN], BY_TEXT);
     run::row(b"L WS EN", &[L, WS, EN], BY_TEXT);
     run::row(b"EN CS EN", &[EN, CS, EN], 1);
+}
+
+// Separators of numbers, and neutrals between directions.
+fn table_separators() {
     run::row(b"EN CS CS EN", &[EN, CS, CS, EN], 1);
     run::row(b"AN ET EN", &[AN, ET, EN], 1);
     run::row(b"R WS L", &[R, WS, L], 0);
+}
+
+// Runs, removed positions and the reset.
+fn table_runs() {
     run::row(b"R WS L", &[R, WS, L], 1);
     run::row(b"RLE L PDF R", &[RLE, L, PDF, R], 0);
     run::row(b"EN BN CS EN", &[EN, BN, CS, EN], 1);
     run::row(b"R S R", &[R, S, R], 0);
+}
+
+// What is removed or reset, and the ends of lines.
+fn table_lines() {
     run::row(b"PDF L", &[PDF, L], 0);
     run::row(b"NSM", &[NSM], 1);
     run::row(b"B", &[B], BY_TEXT);
@@ -70,9 +82,17 @@ fn bad_classes() {
     run::row(b"class 19", &[L, NONE], 0);
     run::base(b"class 19, base", &[NONE]);
     run::row(b"B last", &[L, B], 0);
+}
+
+// Refusal 4, and which of two faults comes first.
+fn bad_separators() {
     run::row(b"B before the last", &[L, B, L], 0);
     run::base(b"B before the last, base", &[B, L]);
     run::row(b"class 19, then B", &[NONE, B, L], 0);
+}
+
+// Faults of the classes come before those of the request.
+fn bad_classes_first() {
     run::row(b"B, then class 19", &[B, NONE], 0);
     run::row(b"class 19, and the request", &[L, NONE], 3);
     run::row(b"no classes, and the request", &[], 3);
@@ -122,6 +142,10 @@ fn bad_lines() {
     run::line(b"a bad level outside the line", &[L, L], &[63, 0], 0, 1, 2);
     run::line(b"from = to", &[L, L], &[0, 0], 0, 1, 1);
     run::line(b"from above to", &[L, L], &[0, 0], 0, 1, 0);
+}
+
+// The end of a line, and faults that come before it.
+fn bad_line_ends() {
     run::line(b"to = the end", &[L, L], &[0, 0], 0, 1, 2);
     run::line(b"to past the end", &[L, L], &[0, 0], 0, 0, 3);
     run::line(
@@ -187,6 +211,10 @@ fn bad_ends() {
     run::all_lines(b"ends do not rise", &[L, L, L], &[0, 0, 0], 0, &[2, 2, 3]);
     run::all_lines(b"ends fall", &[L, L, L], &[0, 0, 0], 0, &[2, 1, 3]);
     run::all_lines(b"ends short of the end", &[L, L, L], &[0, 0, 0], 0, &[1, 2]);
+}
+
+// Ends past the end, and which of two faults comes first.
+fn bad_ends_first() {
     run::all_lines(b"ends past the end", &[L, L, L], &[0, 0, 0], 0, &[1, 4]);
     run::all_lines(
         b"ends, and the buffer",
@@ -211,13 +239,20 @@ fn cuts() {
 
 fn main() {
     table();
+    table_separators();
+    table_runs();
+    table_lines();
     errors();
     long::edges();
     cuts();
     bad_classes();
+    bad_separators();
+    bad_classes_first();
     bad_levels_jobs();
     bad_levels();
     bad_lines();
+    bad_line_ends();
     short_orders();
     bad_ends();
+    bad_ends_first();
 }
