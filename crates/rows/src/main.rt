@@ -11,9 +11,11 @@ use classes::B;
 use classes::BN;
 use classes::CS;
 use classes::EN;
+use classes::ES;
 use classes::ET;
 use classes::L;
 use classes::LRE;
+use classes::LRO;
 use classes::NSM;
 use classes::ON;
 use classes::PDF;
@@ -71,6 +73,45 @@ fn errors() {
     run::row(b"RLO WS", &[RLO, WS], 0);
     run::row(b"RLO L WS", &[RLO, L, WS], 0);
     run::row(b"EN EN", &[EN, EN], 1);
+}
+
+// Marks and numbers: W1 to W3.
+fn weak_marks_and_numbers() {
+    say::text(b"single rules\n");
+    run::row(b"AL NSM NSM EN", &[AL, NSM, NSM, EN], 0);
+    run::row(b"L RLE NSM EN", &[L, RLE, NSM, EN], 0);
+    run::row(b"AL WS EN R EN", &[AL, WS, EN, R, EN], 0);
+    run::row(b"AL L AN", &[AL, L, AN], 0);
+}
+
+// Separators and terminators: W4 to W7.
+fn weak_separators() {
+    run::row(b"AN CS AN CS EN", &[AN, CS, AN, CS, EN], 1);
+    run::row(b"EN ES EN ES ES EN", &[EN, ES, EN, ES, ES, EN], 1);
+    run::row(b"ET ET EN ET CS", &[ET, ET, EN, ET, CS], 1);
+    run::row(b"L WS EN ET R EN", &[L, WS, EN, ET, R, EN], 0);
+}
+
+// Neutrals: N1 and N2, also beside numbers and at the ends of a run.
+fn neutral_directions() {
+    run::row(b"R ON EN WS R", &[R, ON, EN, WS, R], 0);
+    run::row(b"L WS AN S L", &[L, WS, AN, S, L], 0);
+    run::row(b"ON R ON L ON", &[ON, R, ON, L, ON], 1);
+}
+
+// Overrides, and what the reset takes back: X4 to X9, L1 and L2.
+fn overrides_and_lines() {
+    run::row(
+        b"RLO EN ET PDF LRO R AL PDF",
+        &[RLO, EN, ET, PDF, LRO, R, AL, PDF],
+        0,
+    );
+    run::row(b"R WS BN WS S R WS", &[R, WS, BN, WS, S, R, WS], 0);
+    run::row(
+        b"L LRE R EN PDF RLE L B",
+        &[L, LRE, R, EN, PDF, RLE, L, B],
+        1,
+    );
 }
 
 // Refusals of the classes: 1, 2 and 4, and which of two faults comes first.
@@ -243,6 +284,10 @@ fn main() {
     table_runs();
     table_lines();
     errors();
+    weak_marks_and_numbers();
+    weak_separators();
+    neutral_directions();
+    overrides_and_lines();
     long::edges();
     cuts();
     bad_classes();
