@@ -23,10 +23,6 @@ pub levels-more : (base : ℕ) (s : State) (c : ℕ) (cs : List ℕ)
 unfolding explicitLevels
 levels-more base s c cs = refl
 
-pub types-none : (s : State) → explicitTypes s [] ≡ []
-unfolding explicitTypes
-types-none s = refl
-
 pub types-more : (s : State) (c : ℕ) (cs : List ℕ) → explicitTypes s (c ∷ cs) ≡ typeHere s c ∷ explicitTypes (step s c) cs
 unfolding explicitTypes
 types-more s c cs = refl

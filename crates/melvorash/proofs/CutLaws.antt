@@ -117,7 +117,7 @@ pub record Part (cs : List ℕ) (n : ℕ) : Type 0 where
 -- the first part of that length is the one that the second form gives
 pub part-given : (cs : List ℕ) (n : ℕ) → n ≡ partLength (cutAnswer cs) → Part cs n
 unfolding cutAnswer cutPart
-part-given cs n e = by (checksOfCut cs) refl (e ∙ refl)
+part-given cs n e = by (checksOfCut cs) refl e
   where
     by : (check : Check) → checksOfCut cs ≡ check → n ≡ partLength (answered check (length (P1 cs))) → Part cs n
     by sound s m = record { within = rw m (P1-within cs); part = rw (s, m) (P1-part cs) }

@@ -16,7 +16,7 @@ use Rattle.rules.specs.Resolve.{resolvedLevels}
 use Rattle.rules.specs.Refusals.{sound, refuse, _andThen_, refuseWhere, checkBase, checkLevelRoom, isBadLevel, firstBadLevel, isEmpty, endsRiseTo, checkLine, checkEnds, checkOrderRoom, checksOfLevels, checksOfOrder, checksOfLine, checksOfLines}
 use Rattle.rules.specs.Jobs.{accepted, refused, answered, over, levelsAnswer, explicitBuffer, resolveBuffer, lineAnswer, linesAnswer}
 use Rattle.rules.proofs.Passes.{by-test}
-use Rattle.refusals.proofs.SoundLaws.{levels-sound}
+use Rattle.refusals.proofs.SoundLaws.{never-sound, levels-sound}
 use Rattle.paragraph.proofs.BaseLaws.{baseOf-small}
 use Rattle.explicit.proofs.ExplicitLaws.{length-levels, explicit-at-most-61}
 use Rattle.resolve.proofs.BoundLaws.{AtMost, at-most-all, resolved-accepted}
@@ -37,16 +37,13 @@ level-fits : (c l : ℕ) → isRemoved c ≡ false → isBadLevel c l ≡ false 
 unfolding isBadLevel
 level-fits c l r e = let t : ltb 62 l ≡ false = rw r at e in ltb-false 62 l t
 
-not-sound : {number place : ℕ} → refuse number place ≡ sound → ⊥
-not-sound e = let z : _≡_ {A = ℕ} 0 1 = cc in omega arith
-
 kept-fit : (at : ℕ) (cs ls : List ℕ) → firstBadLevel at cs ls ≡ sound → AtMost 62 (kept cs ls)
 unfolding firstBadLevel kept
 kept-fit at [] ls e = tt
 kept-fit at (c ∷ cs) [] e = tt
 kept-fit at (c ∷ cs) (l ∷ ls) e =
     by-test (isBadLevel c l)
-    (λ b. let z : refuse 7 at ≡ sound = rw b at e in absurd (not-sound z))
+    (λ b. let z : refuse 7 at ≡ sound = rw b at e in absurd (never-sound z))
     (λ b. let next : firstBadLevel (suc at) cs ls ≡ sound = rw b at e in
     by-test (isRemoved c)
     (λ r. rw r (kept-fit (suc at) cs ls next))

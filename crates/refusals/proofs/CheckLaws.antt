@@ -39,9 +39,6 @@ pub none-left : (xs : List ℕ) (i : ℕ) → length xs ≤ i → isEmpty (drop 
 none-left xs i h = rw (drop-of-length-le xs h)
 
 -- ---- the walk to the first fault
-pub walk-begun : (cs : List ℕ) → firstFault 0 (drop 0 cs) ≡ firstFault 0 cs
-walk-begun cs = refl
-
 fault-step : (at c : ℕ) (cs : List ℕ) → firstFault at (c ∷ cs) ≡ (faultAt at c cs andThen firstFault (suc at) cs)
 unfolding firstFault
 fault-step at c cs = refl

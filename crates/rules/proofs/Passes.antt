@@ -8,9 +8,9 @@ use native.Mathlib.Omega.{arith}
 use mathlib.Core.Bool.{Bool, true, false}
 use mathlib.Core.Path.{_≡_, refl, sym, ap, _∙_}
 use mathlib.Core.List.{List, [], _∷_, _++_, map, append-nil, append-assoc}
-use lib.ListN.{length, getD, take, drop, set, replicate, length-append, length-set, length-drop, length-replicate, drop-of-length-le}
-use lib.Seq.{take-all, drop-nil, getD-drop, drop-drop, take-at, length-take-le}
-use borrow.Rule.Slice.PartMut.{midOf, postOf, putMid, same-len-mid, mid-len, drop-put}
+use lib.ListN.{length, getD, take, drop, set, replicate, length-set, length-drop, length-replicate, drop-of-length-le}
+use lib.Seq.{take-all, drop-nil, getD-drop, drop-drop}
+use borrow.Rule.Slice.PartMut.{midOf, putMid, same-len-mid, mid-len, drop-put}
 use Rattle.rules.specs.Choice.{if_then_else_, headOr}
 use Rattle.rules.specs.Weak.{afterStretch, stretches}
 use Rattle.rules.proofs.Lists.{take-set-next, drop-next, drop-set-next, take-next, take-put-end}
