@@ -1,0 +1,4 @@
+-- Laws that the proofs of this crate cite, and the theorem that a loop over lines follows.
+pub mod PartLaws
+pub mod WordLaws
+pub mod LineLaws

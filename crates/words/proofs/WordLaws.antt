@@ -1,0 +1,48 @@
+-- The laws of words: two words are compared place by place, and a name is looked for one after the other.
+-- Assumes nothing.
+use Prim.Native.Nat.{ℕ, suc, _+_, _≤_, _<_}
+use native.Mathlib.Omega.{arith}
+use mathlib.Core.Path.{_≡_, refl, sym, ap, _∙_}
+use mathlib.Core.Bool.{Bool, true, false, _&&_}
+use mathlib.Core.List.{List, [], _∷_}
+use lib.Dec.{eqb}
+use lib.ListN.{length, getD, drop, drop-of-length-le}
+use borrow.Author.Tests.{eq-eqb, ne-eqb}
+use Rattle.rules.proofs.Lists.{drop-next}
+use Rattle.words.specs.Words.{sameWord}
+
+same-nil : sameWord [] [] ≡ true
+unfolding sameWord
+same-nil = refl
+
+same-cons : (x y : ℕ) (xs ys : List ℕ) → sameWord (x ∷ xs) (y ∷ ys) ≡ (eqb x y && sameWord xs ys)
+unfolding sameWord
+same-cons x y xs ys = refl
+
+neither : (b : Bool) → (b && false) ≡ false
+neither true = refl
+neither false = refl
+
+pub same-length : (a b : List ℕ) → (length a ≡ length b → ⊥) → false ≡ sameWord a b
+unfolding sameWord
+same-length [] [] h = absurd (h refl)
+same-length [] (y ∷ ys) h = refl
+same-length (x ∷ xs) [] h = refl
+same-length (x ∷ xs) (y ∷ ys) h = rw (← same-length xs ys (λ e. h (ap suc e))) (sym (neither (eqb x y)))
+
+module _ (a b : List ℕ) (i : ℕ) (whole : Bool) (long : length a ≡ length b) (e : sameWord (drop i a) (drop i b) ≡ whole) where
+  same-next : i < length a → (eqb (getD a i 0) (getD b i 0) && sameWord (drop (i + 1) a) (drop (i + 1) b)) ≡ whole
+  same-next h =
+      let g : i < length b = omega arith in
+      rw (drop-next a i h, drop-next b i g, same-cons) at e
+
+  pub same-differs : i < length a → (getD a i 0 ≡ getD b i 0 → ⊥) → false ≡ whole
+  same-differs h d = rw (ne-eqb _ _ d) at (same-next h)
+
+  pub same-on : i < length a → getD a i 0 ≡ getD b i 0 → sameWord (drop (i + 1) a) (drop (i + 1) b) ≡ whole
+  same-on h d = rw (eq-eqb _ _ d) at (same-next h)
+
+  pub same-done : length a ≤ i → true ≡ whole
+  same-done h =
+      let g : length b ≤ i = omega arith in
+      rw (drop-of-length-le a h, drop-of-length-le b g, same-nil) at e
