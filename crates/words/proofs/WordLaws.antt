@@ -9,6 +9,7 @@ use lib.Dec.{eqb}
 use lib.ListN.{length, getD, drop, drop-of-length-le}
 use borrow.Author.Tests.{eq-eqb, ne-eqb}
 use Rattle.rules.proofs.Lists.{drop-next}
+use Rattle.rules.specs.Choice.{if_then_else_}
 use Rattle.words.specs.Words.{sameWord}
 
 same-nil : sameWord [] [] ≡ true
@@ -46,3 +47,11 @@ module _ (a b : List ℕ) (i : ℕ) (whole : Bool) (long : length a ≡ length b
   same-done h =
       let g : length b ≤ i = omega arith in
       rw (drop-of-length-le a h, drop-of-length-le b g, same-nil) at e
+
+-- a word is looked for in a chain of tests: it is the one tested, or what the rest of the chain gives
+module _ (word letters : List ℕ) (here rest : ℕ) {test : Bool} (tested : test ≡ sameWord word letters) where
+  pub named-here : test ≡ true → here ≡ (if sameWord word letters then here else rest)
+  named-here e = rw (sym tested ∙ e)
+
+  pub named-on : {found : ℕ} → test ≡ false → found ≡ rest → found ≡ (if sameWord word letters then here else rest)
+  named-on e same = rw (sym tested ∙ e) same

@@ -1,10 +1,6 @@
 use borrow.Author.Needs.{needs}
 use Rattle.words.proofs.read_classes.Statement.{statement}
 use Rattle.words.proofs.read_classes.Tie as tie
-use Rattle.words.proofs.read_classes.Reads as reads
-use Rattle.words.proofs.read_classes.Lts as lts
-use Rattle.words.proofs.names.class_named.Reads as class-named-reads
-use Rattle.words.proofs.part_end.Reads as part-end-reads
 
 abbrev Inv-loop : tie.InvT-loop
 Inv-loop line classes₀ end₀ count₀ classes end count = ?
@@ -12,67 +8,51 @@ Inv-loop line classes₀ end₀ count₀ classes end count = ?
 abbrev μ-loop : tie.MeasureT-loop
 μ-loop line classes₀ end₀ count₀ classes end count = ?
 
--- src/lib.rt:42:9
 part-end-requires : tie.Need-part-end-requires Inv-loop μ-loop
 part-end-requires c κs = search needs
 
--- src/lib.rt:44:5
 loop-holds : tie.Need-loop-holds Inv-loop μ-loop
 loop-holds c = search needs
 
--- src/lib.rt:46:13
 same-length : tie.Need-same-length Inv-loop μ-loop
 same-length c = search needs
 
--- src/lib.rt:46:13
 returns : tie.Need-returns Inv-loop μ-loop
 returns c = search needs
 
--- src/lib.rt:48:21
 add-start : tie.Need-add-start Inv-loop μ-loop
 add-start c = search needs
 
--- src/lib.rt:49:9
 part-end-requires-2 : tie.Need-part-end-requires-2 Inv-loop μ-loop
 part-end-requires-2 c κs = search needs
 
--- src/lib.rt:50:38
 sub-class-named : tie.Need-sub-class-named Inv-loop μ-loop
 sub-class-named c = search needs
 
--- src/lib.rt:50:38
 part-class-named-start : tie.Need-part-class-named-start Inv-loop μ-loop
 part-class-named-start c = search needs
 
--- src/lib.rt:50:38
 part-class-named-end : tie.Need-part-class-named-end Inv-loop μ-loop
 part-class-named-end c = search needs
 
--- src/lib.rt:50:26
 class-named-requires : tie.Need-class-named-requires Inv-loop μ-loop
 class-named-requires c κs = search needs
 
--- src/lib.rt:50:9
 slice-write-classes : tie.Need-slice-write-classes Inv-loop μ-loop
 slice-write-classes c = search needs
 
--- src/lib.rt:51:9
 add-count : tie.Need-add-count Inv-loop μ-loop
 add-count c = search needs
 
--- src/lib.rt:44:5
 loop-less : tie.Need-loop-less Inv-loop μ-loop
 loop-less c = search needs
 
--- src/lib.rt:44:5
 loop-again : tie.Need-loop-again Inv-loop μ-loop
 loop-again c = search needs
 
--- src/lib.rt:39:1
 same-length-2 : tie.Need-same-length-2 Inv-loop μ-loop
 same-length-2 c = search needs
 
--- src/lib.rt:39:1
 returns-2 : tie.Need-returns-2 Inv-loop μ-loop
 returns-2 c = search needs
 
