@@ -2,3 +2,5 @@
 pub mod PartLaws
 pub mod WordLaws
 pub mod LineLaws
+pub mod InputLaws
+pub mod Determined

@@ -88,9 +88,15 @@ module _ (s : ℕ) (bs : List ℕ) (i : ℕ) where
       ∙ ap (λ (n : ℕ). take n (drop i bs) ∷ partsBehind s (drop n (drop i bs))) size
       ∙ ap (λ (l : List ℕ). take (e - i) (drop i bs) ∷ partsBehind s l) (drop-drop (e - i) i bs ∙ ap (λ (n : ℕ). drop n bs) there)
 
-  pub end-within : i ≤ length bs → (i ≤ partEnd s bs i) × (partEnd s bs i ≤ length bs)
+  pub end-within : {e : ℕ} → e ≡ partEnd s bs i → i ≤ length bs → (i ≤ e) × (e ≤ length bs)
   unfolding partEnd
-  end-within h =
+  end-within {e} at-end h =
       let size : firstLength s (drop i bs) ≤ length (drop i bs) =
       omega (arith, ap (λ (ps : List (List ℕ)). length (firstPart ps)) (parts-split s (drop i bs)) ∙ length-take (firstLength s (drop i bs)) (drop i bs)) in
       omega (arith, length-drop i bs)
+
+  pub behind-next : i < length bs → partsBehind s (drop i bs) ≡ partsAt s (drop (i + 1) bs)
+  behind-next h = rw (drop-next bs i h, behind-cons)
+
+  pub behind-end : length bs ≤ i → partsBehind s (drop i bs) ≡ []
+  behind-end h = rw (drop-of-length-le bs h, behind-nil)

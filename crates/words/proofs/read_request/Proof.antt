@@ -1,3 +1,8 @@
+use lib.Seq.{length-take-le}
+use mathlib.Core.Path.{sym}
+use native.Mathlib.Omega.{arith}
+use Rattle.words.proofs.PartLaws.{end-within}
+use Rattle.words.proofs.LineLaws.{request-known}
 use borrow.Author.Needs.{needs}
 use Rattle.words.proofs.read_request.Statement.{statement}
 use Rattle.words.proofs.read_request.Tie as tie
@@ -6,13 +11,13 @@ part-end-requires : tie.Need-part-end-requires
 part-end-requires c κs = search needs
 
 slice-aggregate-request-named : tie.Need-slice-aggregate-request-named
-slice-aggregate-request-named c = search needs
+slice-aggregate-request-named c = sym (length-take-le _ _ (end-within _ _ _ (c .before .part-end .ensures) (omega arith) .1))
 
 request-named-requires : tie.Need-request-named-requires
 request-named-requires c κs = search needs
 
 returns : tie.Need-returns
-returns c = search needs
+returns c = request-known _ (c .before .before .part-end .ensures) (c .request-named .ensures)
 
 pub read-request-spec : {M : Type 1} → statement M
 read-request-spec =
