@@ -3,7 +3,7 @@
 -- Assumes nothing.
 use Prim.Native.Nat.{ℕ, suc, _+_, _-_, _≤_, _<_}
 use native.Mathlib.Omega.{arith}
-use mathlib.Core.Path.{_≡_, refl, sym, ap, _∙_}
+use mathlib.Core.Path.{_≡_, refl, ap, _∙_}
 use mathlib.Core.Bool.{true, false}
 use mathlib.Core.List.{List, [], _∷_}
 use lib.Dec.{eqb}
@@ -12,7 +12,7 @@ use lib.Seq.{drop-drop}
 use borrow.Author.Tests.{eq-eqb, ne-eqb}
 use Rattle.rules.proofs.Lists.{drop-next}
 use Rattle.rules.proofs.Passes.{by-test}
-use Rattle.words.specs.Words.{toFirst, partsAt, firstPart, laterParts, partEnd}
+use Rattle.words.specs.Words.{toFirst, partsAt, firstPart, partEnd}
 
 module _ (s : ℕ) where
   parts-nil : partsAt s [] ≡ [] ∷ []

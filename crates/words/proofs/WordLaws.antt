@@ -31,22 +31,23 @@ same-length [] (y ∷ ys) h = refl
 same-length (x ∷ xs) [] h = refl
 same-length (x ∷ xs) (y ∷ ys) h = rw (← same-length xs ys (λ e. h (ap suc e))) (sym (neither (eqb x y)))
 
-module _ (a b : List ℕ) (i : ℕ) (whole : Bool) (long : length a ≡ length b) (e : sameWord (drop i a) (drop i b) ≡ whole) where
+-- words of one length are the same exactly where what is left of them from i on is
+module _ (a b : List ℕ) (i : ℕ) (whole : Bool) (alike : (length a ≡ length b) × (sameWord (drop i a) (drop i b) ≡ whole)) where
   same-next : i < length a → (eqb (getD a i 0) (getD b i 0) && sameWord (drop (i + 1) a) (drop (i + 1) b)) ≡ whole
   same-next h =
-      let g : i < length b = omega arith in
-      rw (drop-next a i h, drop-next b i g, same-cons) at e
+      let within : i < length b = omega (arith, alike .0) in
+      rw (drop-next a i h, drop-next b i within, same-cons) at (alike .1)
 
   pub same-differs : i < length a → (getD a i 0 ≡ getD b i 0 → ⊥) → false ≡ whole
-  same-differs h d = rw (ne-eqb _ _ d) at (same-next h)
+  same-differs h differ = rw (ne-eqb _ _ differ) at (same-next h)
 
-  pub same-on : i < length a → getD a i 0 ≡ getD b i 0 → sameWord (drop (i + 1) a) (drop (i + 1) b) ≡ whole
-  same-on h d = rw (eq-eqb _ _ d) at (same-next h)
+  pub same-on : i < length a → getD a i 0 ≡ getD b i 0 → (length a ≡ length b) × (sameWord (drop (i + 1) a) (drop (i + 1) b) ≡ whole)
+  same-on h agree = (alike .0, rw (eq-eqb _ _ agree) at (same-next h))
 
   pub same-done : length a ≤ i → true ≡ whole
   same-done h =
-      let g : length b ≤ i = omega arith in
-      rw (drop-of-length-le a h, drop-of-length-le b g, same-nil) at e
+      let past : length b ≤ i = omega (arith, alike .0) in
+      rw (drop-of-length-le a h, drop-of-length-le b past, same-nil) at (alike .1)
 
 -- a word is looked for in a chain of tests: it is the one tested, or what the rest of the chain gives
 module _ (word letters : List ℕ) (here rest : ℕ) {test : Bool} (tested : test ≡ sameWord word letters) where

@@ -3,8 +3,7 @@ ghost use mathlib.Core.Path.{_≡_};
 ghost use lib.ListN.{drop};
 ghost use Rattle.words.specs.Words.{sameWord, names, classAmong, classNamed, requestNamed};
 
-
-// A word that names no class.
+// The class of a word that names none.
 pub const UNKNOWN_NAME: u8 = 255;
 
 // Byte for byte; words of different lengths are not compared further.
@@ -24,8 +23,8 @@ pub(crate) fn same_word(a: &[u8], b: &[u8]) -> bool
     true
 }
 
-// The class with the number 255 where no name fits. The names are in the order of the house numbers: the strong classes
-// here, then the weak ones, then the neutral ones.
+// The class that a word names, 255 where it names none. The names stand in house order: the strong classes here, the weak
+// and the neutral ones in the next two functions.
 pub fn class_named(word: &[u8]) -> u8
     ensures { λ r. ⌜ r ≡ classNamed (now (word .entry)) ⌝ }
 {
@@ -53,7 +52,7 @@ pub fn class_named(word: &[u8]) -> u8
     weak_named(word)
 }
 
-// Of the weak classes and those after them.
+// Of the names from the weak classes on.
 pub(crate) fn weak_named(word: &[u8]) -> u8
     ensures { λ r. ⌜ r ≡ classAmong (drop 7 names) (now (word .entry)) ⌝ }
 {
@@ -84,7 +83,7 @@ pub(crate) fn weak_named(word: &[u8]) -> u8
     neutral_named(word)
 }
 
-// Of the neutral classes, the last.
+// Of the names from the neutral classes on, the last.
 pub(crate) fn neutral_named(word: &[u8]) -> u8
     ensures { λ r. ⌜ r ≡ classAmong (drop 15 names) (now (word .entry)) ⌝ }
 {

@@ -1,7 +1,9 @@
+-- `words::read_classes` meets its contract: what is written, then the classes behind `end`, are all that there is room for. The measure
+-- is what is left of the line. Assumes nothing.
 use Prim.Native.Nat.{_+_, _-_, _≤_}
-use denote.Ref.{now}
-use lib.ListN.{length}
 use native.Mathlib.Omega.{arith}
+use lib.ListN.{length}
+use denote.Ref.{now}
 use Rattle.words.proofs.PartLaws.{end-within}
 use Rattle.words.proofs.LineLaws.{Reading, reading-begun, reading-next, reading-full, reading-done}
 use borrow.Author.Needs.{needs}
@@ -13,6 +15,10 @@ Inv-loop line classes₀ end₀ count₀ classes end count = Reading line classe
 
 abbrev μ-loop : tie.MeasureT-loop
 μ-loop line classes₀ end₀ count₀ classes end count = length line - end
+
+-- the word lies within the line
+word-bounds : (c : tie.After-part-end2 Inv-loop μ-loop) → (c .before .before .before .loop .end + 1 ≤ c .part-end2 .result) × (c .part-end2 .result ≤ length (now (c .before .before .before .before .before .before .before .args .line)))
+word-bounds c = end-within _ _ _ (c .part-end2 .ensures) (omega arith)
 
 part-end-requires : tie.Need-part-end-requires Inv-loop μ-loop
 part-end-requires c κs = search needs
@@ -32,10 +38,6 @@ add-start c = search needs
 part-end-requires-2 : tie.Need-part-end-requires-2 Inv-loop μ-loop
 part-end-requires-2 c κs = search needs
 
--- the word lies within the line
-word-bounds : (c : tie.After-part-end2 Inv-loop μ-loop) → (c .before .before .before .loop .end + 1 ≤ c .part-end2 .result) × (c .part-end2 .result ≤ length (now (c .before .before .before .before .before .before .before .args .line)))
-word-bounds c = end-within _ _ _ (c .part-end2 .ensures) (omega arith)
-
 sub-class-named : tie.Need-sub-class-named Inv-loop μ-loop
 sub-class-named c = word-bounds c .0
 
@@ -49,10 +51,10 @@ class-named-requires : tie.Need-class-named-requires Inv-loop μ-loop
 class-named-requires c κs = search needs
 
 slice-write-classes : tie.Need-slice-write-classes Inv-loop μ-loop
-slice-write-classes c = omega (arith, c .before .before .before .before .before .loop .inv .room, c .before .before .before .if1 .left)
+slice-write-classes c = search needs
 
 add-count : tie.Need-add-count Inv-loop μ-loop
-add-count c = omega arith
+add-count c = search needs
 
 loop-less : tie.Need-loop-less Inv-loop μ-loop
 loop-less c = omega (arith, word-bounds (c .before .before))

@@ -1,6 +1,8 @@
-use lib.Seq.{length-take-le}
-use mathlib.Core.Path.{sym}
+-- `words::read_request` meets its contract: the first word is what stands before the first space.
+-- Assumes nothing.
 use native.Mathlib.Omega.{arith}
+use mathlib.Core.Path.{sym}
+use lib.Seq.{length-take-le}
 use Rattle.words.proofs.PartLaws.{end-within}
 use Rattle.words.proofs.LineLaws.{request-known}
 use borrow.Author.Needs.{needs}

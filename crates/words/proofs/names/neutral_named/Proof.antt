@@ -1,3 +1,5 @@
+-- `words::names::neutral_named` meets its contract: each return is one way through the names, and the last is that of an unknown one.
+-- Assumes nothing.
 use Rattle.words.specs.Words.{classAmong}
 use Rattle.words.proofs.WordLaws.{named-here, named-on}
 use borrow.Author.Needs.{needs}

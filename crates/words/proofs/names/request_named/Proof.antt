@@ -1,3 +1,5 @@
+-- `words::names::request_named` meets its contract: each return is one way through the three digits.
+-- Assumes nothing.
 use Rattle.words.specs.Words.{requestNamed}
 use Rattle.words.proofs.WordLaws.{named-here, named-on}
 use borrow.Author.Needs.{needs}

@@ -1,9 +1,8 @@
 -- `words::names::same_word` meets its contract: the invariant is that the words are the same exactly where their rests from i on are.
 -- Assumes nothing.
-use Prim.Native.Nat.{_≤_, _-_}
+use Prim.Native.Nat.{_-_}
 use mathlib.Core.Path.{_≡_, refl}
 use lib.ListN.{length, drop}
-use native.Mathlib.Omega.{arith}
 use Rattle.words.specs.Words.{sameWord}
 use Rattle.words.proofs.WordLaws.{same-length, same-differs, same-on, same-done}
 use borrow.Author.Needs.{needs}
@@ -29,7 +28,7 @@ shared-slice-read-if2-2 : tie.Need-shared-slice-read-if2-2 Inv-loop μ-loop
 shared-slice-read-if2-2 c = search needs
 
 returns-2 : tie.Need-returns-2 Inv-loop μ-loop
-returns-2 c = same-differs _ _ _ _ (c .before .before .before .before .loop .inv .0) (c .before .before .before .before .loop .inv .1) (c .before .before .before .loop-test .taken) (c .if2 .taken)
+returns-2 c = same-differs _ _ _ _ (c .before .before .before .before .loop .inv) (c .before .before .before .loop-test .taken) (c .if2 .taken)
 
 add-i : tie.Need-add-i Inv-loop μ-loop
 add-i c = search needs
@@ -38,15 +37,10 @@ loop-less : tie.Need-loop-less Inv-loop μ-loop
 loop-less c = search needs
 
 loop-again : tie.Need-loop-again Inv-loop μ-loop
-loop-again c =
- (
-  c .before .before .before .before .loop .inv .0,
-  same-on _ _ _ _ (c .before .before .before .before .loop .inv .0) (c .before .before .before .before .loop .inv .1)
-      (c .before .before .before .loop-test .taken) (c .if2 .left),
-)
+loop-again c = same-on _ _ _ _ (c .before .before .before .before .loop .inv) (c .before .before .before .loop-test .taken) (c .if2 .left)
 
 returns-3 : tie.Need-returns-3 Inv-loop μ-loop
-returns-3 c = same-done _ _ _ _ (c .before .loop .inv .0) (c .before .loop .inv .1) (c .loop-test .left)
+returns-3 c = same-done _ _ _ _ (c .before .loop .inv) (c .loop-test .left)
 
 pub same-word-spec : {M : Type 1} → statement M
 same-word-spec =

@@ -1,3 +1,5 @@
+-- `words::names::weak_named` meets its contract: each return is one way through the names, and the last is what the later names give.
+-- Assumes nothing.
 use Rattle.words.specs.Words.{classAmong}
 use Rattle.words.proofs.WordLaws.{named-here, named-on}
 use borrow.Author.Needs.{needs}
