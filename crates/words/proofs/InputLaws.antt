@@ -46,7 +46,7 @@ module _ (input : List ℕ) (i e : ℕ) (within : i < length input) (at-end : e 
       taken ∙ ap (λ (ps : List (List ℕ)). withoutEmptyLast (line ∷ ps)) (behind-end lineFeed input e h) ∙ line-last line some
       ∙ ap (λ (ls : List (List ℕ)). line ∷ ls) (sym (ap linesOf (drop-of-length-le input past) ∙ lines-nil))
 
-  pub lines-next : linesOf (drop i input) ≡ line ∷ linesOf (drop (e + 1) input)
+  pub lines-next : linesOf (drop i input) ≡ take (e - i) (drop i input) ∷ linesOf (drop (e + 1) input)
   lines-next = by (le-or-lt (length input) e)
     where
       by : (length input ≤ e) ⊎ (e < length input) → linesOf (drop i input) ≡ line ∷ linesOf (drop (e + 1) input)

@@ -25,6 +25,7 @@ partsAt separator [] = [] ∷ []
 partsAt separator (b ∷ bs) =
     if eqb b separator then [] ∷ partsAt separator bs else toFirst b (partsAt separator bs)
 
+-- the first part, and the parts after it
 abbrev pub firstPart : List (List ℕ) → List ℕ
 firstPart [] = []
 firstPart (part ∷ parts) = part
@@ -88,7 +89,7 @@ names =
     name ON (79 ∷ 78 ∷ []) ∷
     []
 
--- an unknown name counts as class 255
+-- a word names the class whose name it is; an unknown name counts as class 255
 abbrev pub unknownName : ℕ
 unknownName = 255
 

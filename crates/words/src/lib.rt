@@ -13,7 +13,8 @@ pub const LINE_FEED: u8 = 10;
 
 pub const SPACE: u8 = 32;
 
-// Where the line or the word ends that begins at `from`: at the next separator, or where the bytes end.
+// Where the line or the word ends that begins at `from`: at the next separator, or where the bytes end. Past their end
+// that is `from` itself.
 pub fn part_end(bytes: &[u8], separator: u8, from: usize) -> usize
     ensures { λ r. ⌜ r ≡ partEnd separator (now (bytes .entry)) from ⌝ }
 {
@@ -35,7 +36,8 @@ pub fn read_request(line: &[u8]) -> u8
     request_named(&line[..end])
 }
 
-// The classes that the further words name, as many as the buffer holds, and how many that is.
+// The classes that the further words name, as many as the buffer holds, and how many that is. Whether more words
+// follow is not looked at, so a buffer with one place more than is wanted shows a line that is too long.
 pub fn read_classes(line: &[u8], classes: &mut [u8]) -> usize
     ensures { λ r. ⌜ ClassesRead (now (line .entry)) (now (classes .entry)) r (now (classes .exit)) ⌝ }
 {
