@@ -15,6 +15,10 @@ pub lines-nil : linesOf [] ≡ []
 unfolding linesOf withoutEmptyLast partsAt
 lines-nil = refl
 
+-- no line begins where no byte is left
+pub lines-end : (input : List ℕ) (i : ℕ) → length input ≤ i → linesOf (drop i input) ≡ []
+lines-end input i past = ap linesOf (drop-of-length-le input past) ∙ lines-nil
+
 -- a part with parts behind it is a line, and so is a last one that is not empty
 line-on : (part : List ℕ) {next : List ℕ} {parts further : List (List ℕ)} → parts ≡ next ∷ further → withoutEmptyLast (part ∷ parts) ≡ part ∷ withoutEmptyLast parts
 unfolding withoutEmptyLast
@@ -42,9 +46,8 @@ module _ (input : List ℕ) (i e : ℕ) (within : i < length input) (at-end : e 
   alone : length input ≤ e → linesOf (drop i input) ≡ line ∷ linesOf (drop (e + 1) input)
   alone h =
       let some : 0 < length line = omega (arith, length-take (e - i) (drop i input), length-drop i input) in
-      let past : length input ≤ e + 1 = omega arith in
       taken ∙ ap (λ (ps : List (List ℕ)). withoutEmptyLast (line ∷ ps)) (behind-end lineFeed input e h) ∙ line-last line some
-      ∙ ap (λ (ls : List (List ℕ)). line ∷ ls) (sym (ap linesOf (drop-of-length-le input past) ∙ lines-nil))
+      ∙ ap (λ (ls : List (List ℕ)). line ∷ ls) (sym (lines-end input (e + 1) (omega arith)))
 
   pub lines-next : linesOf (drop i input) ≡ take (e - i) (drop i input) ∷ linesOf (drop (e + 1) input)
   lines-next = by (le-or-lt (length input) e)

@@ -81,7 +81,7 @@ weak-named-requires c κs = search needs
 
 returns-8 : tie.Need-returns-8
 unfolding classNamed classAmong
-returns-8 c = search (named-here, named-on) depth 10
+returns-8 c = search named-on depth 10
 
 pub class-named-spec : {M : Type 1} → statement M
 class-named-spec =

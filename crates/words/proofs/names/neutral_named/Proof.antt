@@ -48,7 +48,7 @@ returns-4 c = search (named-here, named-on) depth 10
 
 returns-5 : tie.Need-returns-5
 unfolding classAmong
-returns-5 c = search (named-here, named-on) depth 10
+returns-5 c = search named-on depth 10
 
 pub neutral-named-spec : {M : Type 1} → statement M
 neutral-named-spec =

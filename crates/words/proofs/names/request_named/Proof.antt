@@ -38,7 +38,7 @@ returns-3 c = search (named-here, named-on) depth 10
 
 returns-4 : tie.Need-returns-4
 unfolding requestNamed
-returns-4 c = search (named-here, named-on) depth 10
+returns-4 c = search named-on depth 10
 
 pub request-named-spec : {M : Type 1} → statement M
 request-named-spec =

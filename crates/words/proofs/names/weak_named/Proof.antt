@@ -91,7 +91,7 @@ neutral-named-requires c κs = search needs
 
 returns-9 : tie.Need-returns-9
 unfolding classAmong
-returns-9 c = search (named-here, named-on) depth 10
+returns-9 c = search named-on depth 10
 
 pub weak-named-spec : {M : Type 1} → statement M
 weak-named-spec =
