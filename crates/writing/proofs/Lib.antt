@@ -1,0 +1,4 @@
+-- Laws of the texts and of putting them.
+pub mod TextLaws
+mod NumberLaws
+mod EachLaws
