@@ -2,3 +2,5 @@
 pub mod TextLaws
 mod NumberLaws
 mod EachLaws
+pub mod SizeLaws
+pub mod Determined

@@ -1,19 +1,18 @@
 -- Putting a text into a buffer: past the end nothing changes, and two texts put one behind the other are put as one.
 -- Assumes nothing.
-use Prim.Native.Nat.{ℕ, zero, suc, _+_, _≤_, _<_, min}
-use native.Mathlib.Numerals.{add-one}
+use Prim.Native.Nat.{ℕ, suc, _+_, _≤_, _<_, min}
 use native.Mathlib.Omega.{arith}
 use mathlib.Core.Path.{_≡_, refl, sym, ap, _∙_}
 use mathlib.Core.Logic.{_⊎_, inl, inr}
-use mathlib.Core.List.{List, [], _∷_, _++_, append-nil, append-assoc}
-use lib.ListN.{length, getD, take, drop, set, length-append, length-set}
-use lib.Seq.{set-out, set-split, take-all}
+use mathlib.Core.List.{List, [], _∷_, _++_}
+use lib.ListN.{length, drop, set, length-append, length-set}
+use lib.Seq.{set-out, sets, sets-eq}
 use Rattle.rules.specs.Jobs.{over}
-use Rattle.rules.proofs.Lists.{le-or-lt, take-next}
-use Rattle.writing.specs.Text.{space, spaced, putText, Puts}
+use Rattle.rules.proofs.Lists.{le-or-lt}
+use Rattle.writing.specs.Text.{putText, Puts}
 
 -- ---- the buffer
-pub length-put : (at : ℕ) (text buffer : List ℕ) → length (putText at text buffer) ≡ length buffer
+length-put : (at : ℕ) (text buffer : List ℕ) → length (putText at text buffer) ≡ length buffer
 unfolding putText
 length-put at [] buffer = refl
 length-put at (b ∷ bs) buffer = length-put (suc at) bs (set buffer at b) ∙ length-set buffer at b
@@ -71,3 +70,17 @@ module _ {s t before mid after : List ℕ} {at e end : ℕ} where
 -- the same text by another name
 pub puts-same : {s t before after : List ℕ} {at end : ℕ} → s ≡ t → Puts s before at after end → Puts t before at after end
 puts-same e p = rw e at p
+
+-- ---- a text that has room from the buffer's first place on
+put-sets : (at : ℕ) (text buffer : List ℕ) → putText at text buffer ≡ sets buffer at text
+unfolding putText
+put-sets at [] buffer = refl
+put-sets at (b ∷ bs) buffer = put-sets (suc at) bs (set buffer at b)
+
+pub puts-whole : {text before after : List ℕ} {end : ℕ} → Puts text before 0 after end → length text ≤ length before → (after ≡ over text before) × (end ≡ length text)
+puts-whole {text} {before} p h =
+    let e : 0 + length text ≡ length text = omega arith in
+    let room : 0 + length text ≤ length before = omega arith in (
+      p .buffer ∙ put-sets 0 text before ∙ sets-eq text before 0 room ∙ ap (λ (n : ℕ). text ++ drop n before) e,
+      omega (arith, p .behind),
+    )

@@ -7,24 +7,24 @@ pub fn put_base_row(base: u8, out: &mut [u8], at: usize) -> usize
     ensures { λ r. ⌜ Puts (baseRow base) (now (out .entry)) at (now (out .exit)) r ⌝ }
 {
     let named = text::put_text(b"base", out, at);
-    let valued = number::put_spaced_number(base as usize, out, named);
-    text::put_byte(b'\n', out, valued)
+    let based = number::put_spaced_number(base as usize, out, named);
+    text::put_byte(b'\n', out, based)
 }
 
 pub fn put_levels_row(levels: &[u8], out: &mut [u8], at: usize) -> usize
     ensures { λ r. ⌜ Puts (levelsRow (now (levels .entry))) (now (out .entry)) at (now (out .exit)) r ⌝ }
 {
     let named = text::put_text(b"levels", out, at);
-    let valued = number::put_spaced_levels(levels, out, named);
-    text::put_byte(b'\n', out, valued)
+    let levelled = number::put_spaced_levels(levels, out, named);
+    text::put_byte(b'\n', out, levelled)
 }
 
 pub fn put_order_row(order: &[u16], out: &mut [u8], at: usize) -> usize
     ensures { λ r. ⌜ Puts (orderRow (now (order .entry))) (now (out .entry)) at (now (out .exit)) r ⌝ }
 {
     let named = text::put_text(b"order", out, at);
-    let valued = number::put_spaced_order(order, out, named);
-    text::put_byte(b'\n', out, valued)
+    let ordered = number::put_spaced_order(order, out, named);
+    text::put_byte(b'\n', out, ordered)
 }
 
 // The refusal's number, then its place.

@@ -26,9 +26,9 @@ returns : tie.Need-returns
 unfolding baseRow
 returns c =
     let ended = c .before .before in
-    let valued = ended .before .before .before .before in
-    let named = valued .before .before .before .before in
-    puts-then (puts-then (named .put-text .ensures) (puts-same (spaced-one numberText _) (valued .put-spaced-number .ensures))) (ended .put-byte .ensures)
+    let based = ended .before .before .before .before in
+    let named = based .before .before .before .before in
+    puts-then (puts-then (named .put-text .ensures) (puts-same (spaced-one numberText _) (based .put-spaced-number .ensures))) (ended .put-byte .ensures)
 
 pub put-base-row-spec : {M : Type 1} → statement M
 put-base-row-spec =

@@ -25,9 +25,9 @@ returns : tie.Need-returns
 unfolding levelsRow
 returns c =
     let ended = c .before .before in
-    let valued = ended .before .before .before .before in
-    let named = valued .before .before .before .before in
-    puts-then (puts-then (named .put-text .ensures) (valued .put-spaced-levels .ensures)) (ended .put-byte .ensures)
+    let levelled = ended .before .before .before .before in
+    let named = levelled .before .before .before .before in
+    puts-then (puts-then (named .put-text .ensures) (levelled .put-spaced-levels .ensures)) (ended .put-byte .ensures)
 
 pub put-levels-row-spec : {M : Type 1} → statement M
 put-levels-row-spec =

@@ -25,9 +25,9 @@ returns : tie.Need-returns
 unfolding orderRow
 returns c =
     let ended = c .before .before in
-    let valued = ended .before .before .before .before in
-    let named = valued .before .before .before .before in
-    puts-then (puts-then (named .put-text .ensures) (valued .put-spaced-order .ensures)) (ended .put-byte .ensures)
+    let ordered = ended .before .before .before .before in
+    let named = ordered .before .before .before .before in
+    puts-then (puts-then (named .put-text .ensures) (ordered .put-spaced-order .ensures)) (ended .put-byte .ensures)
 
 pub put-order-row-spec : {M : Type 1} → statement M
 put-order-row-spec =
