@@ -33,11 +33,12 @@ numberText n = decimal (suc n) n
 unfoldable pub levelText : ℕ → List ℕ
 levelText level = if eqb level removedLevel then dash ∷ [] else numberText level
 
--- a row: its name, each value behind a space, and the line feed
+-- each value behind a space
 unfoldable pub spaced : (ℕ → List ℕ) → List ℕ → List ℕ
 spaced text [] = []
 spaced text (x ∷ xs) = (space ∷ text x) ++ spaced text xs
 
+-- a row: its name, the values, and the line feed
 abbrev row : List ℕ → (ℕ → List ℕ) → List ℕ → List ℕ
 row name text values = name ++ spaced text values ++ (lineFeed ∷ [])
 
