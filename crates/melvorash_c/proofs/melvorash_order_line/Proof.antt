@@ -1,0 +1,22 @@
+-- `melvorash_c::melvorash_order_line` meets its contract: the job's own answer, in three numbers, and the order as the job leaves it.
+-- Assumes nothing.
+use Rattle.melvorash_c.proofs.BoundaryLaws.{fills-line}
+use borrow.Author.Needs.{needs}
+use Rattle.melvorash_c.proofs.melvorash_order_line.Statement.{statement}
+use Rattle.melvorash_c.proofs.melvorash_order_line.Tie as tie
+
+order-line-requires : tie.Need-order-line-requires
+order-line-requires c κs = search needs
+
+of-order-requires : tie.Need-of-order-requires
+of-order-requires c κs = search needs
+
+same-length : tie.Need-same-length
+same-length c = search needs
+
+returns : tie.Need-returns
+returns c = fills-line _ _ _ _ _ _ (c .before .before .before .order-line .ensures) (c .of-order .ensures)
+
+pub melvorash-order-line-spec : {M : Type 1} → statement M
+melvorash-order-line-spec =
+    tie.close (tie.spec order-line-requires of-order-requires same-length returns)

@@ -1,0 +1,22 @@
+-- `melvorash_c::melvorash_order_lines` meets its contract: the job's own answer, in three numbers, and the order as the job leaves it.
+-- Assumes nothing.
+use Rattle.melvorash_c.proofs.BoundaryLaws.{fills-lines}
+use borrow.Author.Needs.{needs}
+use Rattle.melvorash_c.proofs.melvorash_order_lines.Statement.{statement}
+use Rattle.melvorash_c.proofs.melvorash_order_lines.Tie as tie
+
+order-lines-requires : tie.Need-order-lines-requires
+order-lines-requires c κs = search needs
+
+of-order-requires : tie.Need-of-order-requires
+of-order-requires c κs = search needs
+
+same-length : tie.Need-same-length
+same-length c = search needs
+
+returns : tie.Need-returns
+returns c = fills-lines _ _ _ _ _ (c .before .before .before .order-lines .ensures) (c .of-order .ensures)
+
+pub melvorash-order-lines-spec : {M : Type 1} → statement M
+melvorash-order-lines-spec =
+    tie.close (tie.spec order-lines-requires of-order-requires same-length returns)

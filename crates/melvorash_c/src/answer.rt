@@ -1,0 +1,67 @@
+// The answer that C and Rust read, and the way to it from each answer of the jobs.
+use melvorash::BaseAnswer;
+use melvorash::CutAnswer;
+use melvorash::OrderAnswer;
+use refusals::Refusal;
+ghost use Rattle.rules.specs.Jobs.{accepted, refused};
+ghost use Rattle.refusals.specs.Page.{numberOf, placeOf};
+ghost use Rattle.melvorash.specs.Answers.{cutPage, basePage, orderPage};
+ghost use Rattle.melvorash_c.specs.Boundary.{Gives};
+
+// Accepted: refusal 0, place 0 and what the job answers. Refused: the page's number and place, value 0.
+// Three numbers of one width leave no padding, so every byte of an answer is determined.
+#[repr(C)]
+pub struct Answer {
+    pub refusal: usize,
+    pub place: usize,
+    pub value: usize,
+}
+
+fn of_value(value: usize) -> Answer
+    ensures { λ r. ⌜ Gives (accepted value) r ⌝ }
+{
+    Answer {
+        refusal: 0,
+        place: 0,
+        value,
+    }
+}
+
+fn of_refusal(refusal: Refusal) -> Answer
+    ensures { λ r. ⌜ Gives (refused (numberOf refusal) (placeOf refusal)) r ⌝ }
+{
+    let number = refusal.number();
+    let place = refusal.place();
+    Answer {
+        refusal: number as usize,
+        place,
+        value: 0,
+    }
+}
+
+pub(crate) fn of_cut(answer: CutAnswer) -> Answer
+    ensures { λ r. ⌜ Gives (cutPage answer) r ⌝ }
+{
+    match answer {
+        CutAnswer::Length(length) => of_value(length),
+        CutAnswer::Refused(refusal) => of_refusal(refusal),
+    }
+}
+
+pub(crate) fn of_base(answer: BaseAnswer) -> Answer
+    ensures { λ r. ⌜ Gives (basePage answer) r ⌝ }
+{
+    match answer {
+        BaseAnswer::Level(level) => of_value(level as usize),
+        BaseAnswer::Refused(refusal) => of_refusal(refusal),
+    }
+}
+
+pub(crate) fn of_order(answer: OrderAnswer) -> Answer
+    ensures { λ r. ⌜ Gives (orderPage answer) r ⌝ }
+{
+    match answer {
+        OrderAnswer::Ordered(placed) => of_value(placed.count),
+        OrderAnswer::Refused(refusal) => of_refusal(refusal),
+    }
+}

@@ -1,0 +1,78 @@
+// The jobs for C and Rust. Each exported function is one job of `melvorash`: it asks nothing of its
+// input, promises what the job promises, and hands the answer over in three numbers.
+// A slice is a pointer and a length there.
+mod answer;
+
+pub use answer::Answer;
+use answer::of_base;
+use answer::of_cut;
+use answer::of_order;
+ghost use Rattle.rules.specs.Jobs.{cutAnswer, baseAnswer, levelsAnswer, explicitBuffer, resolveBuffer};
+ghost use Rattle.melvorash_c.specs.Boundary.{Gives, Fills, FillsLine, FillsLines};
+
+// The first paragraph's length.
+#[no_mangle]
+pub extern "C" fn melvorash_cut(classes: &[u8]) -> Answer
+    ensures { λ r. ⌜ Gives (cutAnswer (now (classes .entry))) r ⌝ }
+{
+    let paragraph = melvorash::cut(classes);
+    of_cut(paragraph)
+}
+
+// The base level of one paragraph, by its text.
+#[no_mangle]
+pub extern "C" fn melvorash_base(classes: &[u8]) -> Answer
+    ensures { λ r. ⌜ Gives (baseAnswer (now (classes .entry))) r ⌝ }
+{
+    let by_text = melvorash::base(classes);
+    of_base(by_text)
+}
+
+// The levels after X1 to X9, and the base level used.
+#[no_mangle]
+pub extern "C" fn melvorash_explicit(classes: &[u8], request: u8, levels: &mut [u8]) -> Answer
+    ensures { λ r. ⌜ Fills (levelsAnswer (now (classes .entry)) request (now (levels .entry))) (explicitBuffer (now (classes .entry)) request (now (levels .entry))) r (now (levels .exit)) ⌝ }
+{
+    let explicit = melvorash::explicit_levels(classes, request, levels);
+    of_base(explicit)
+}
+
+// The levels after I1 and I2, and the base level used.
+#[no_mangle]
+pub extern "C" fn melvorash_resolve(classes: &[u8], request: u8, levels: &mut [u8]) -> Answer
+    ensures { λ r. ⌜ Fills (levelsAnswer (now (classes .entry)) request (now (levels .entry))) (resolveBuffer (now (classes .entry)) request (now (levels .entry))) r (now (levels .exit)) ⌝ }
+{
+    let resolved = melvorash::resolve_levels(classes, request, levels);
+    of_base(resolved)
+}
+
+// One line's positions from left to right, and how many.
+#[no_mangle]
+pub extern "C" fn melvorash_order_line(
+    classes: &[u8],
+    levels: &[u8],
+    base: u8,
+    from: usize,
+    to: usize,
+    order: &mut [u16],
+) -> Answer
+    ensures { λ r. ⌜ FillsLine (now (classes .entry)) (now (levels .entry)) base from to (now (order .entry)) r (now (order .exit)) ⌝ }
+{
+    let line = melvorash::order_line(classes, levels, base, from, to, order);
+    of_order(line)
+}
+
+// The positions of all lines, each line's following the last one's, and how many.
+#[no_mangle]
+pub extern "C" fn melvorash_order_lines(
+    classes: &[u8],
+    levels: &[u8],
+    base: u8,
+    ends: &[u16],
+    order: &mut [u16],
+) -> Answer
+    ensures { λ r. ⌜ FillsLines (now (classes .entry)) (now (levels .entry)) base (now (ends .entry)) (now (order .entry)) r (now (order .exit)) ⌝ }
+{
+    let lines = melvorash::order_lines(classes, levels, base, ends, order);
+    of_order(lines)
+}
