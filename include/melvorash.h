@@ -1,0 +1,133 @@
+/*
+ * Melvorash for C and C++: the embedding levels and the order of bidirectional text, by section 3.12 of
+ * the Unicode Standard 3.0.
+ *
+ * Link libmelvorash_c.a. Every function takes any input whatever, answers in one struct and has no other
+ * effect than to fill the buffer that it is lent. Each is proved to do what is said here.
+ *
+ * What the caller owes, since nothing can check it:
+ *   - A pointer and the count after it fit each other: that many elements can be read, and for a buffer
+ *     that is filled also written, until the call returns. Counts are of elements, not of bytes.
+ *   - The buffer that is filled overlaps no other buffer of the call. Buffers that are only read may overlap.
+ *   - 16-bit buffers are aligned to 2 bytes.
+ * A null pointer with count 0 is an empty buffer.
+ *
+ * There is no global state: calls may run at the same time on different buffers, and may share a buffer
+ * that all of them only read. Nothing is allocated on the heap, and a call takes less than 10 KiB of stack
+ * (8,368 bytes were measured, for an order of 4,096 positions with levels from 1 to 62).
+ */
+#ifndef MELVORASH_H
+#define MELVORASH_H
+
+#include <stddef.h>
+#include <stdint.h>
+
+#ifdef __cplusplus
+extern "C" {
+#endif
+
+/* The classes: one byte for each position of a paragraph. */
+#define MELVORASH_L 0
+#define MELVORASH_LRE 1
+#define MELVORASH_LRO 2
+#define MELVORASH_R 3
+#define MELVORASH_AL 4
+#define MELVORASH_RLE 5
+#define MELVORASH_RLO 6
+#define MELVORASH_PDF 7
+#define MELVORASH_EN 8
+#define MELVORASH_ES 9
+#define MELVORASH_ET 10
+#define MELVORASH_AN 11
+#define MELVORASH_CS 12
+#define MELVORASH_NSM 13
+#define MELVORASH_BN 14
+#define MELVORASH_B 15
+#define MELVORASH_S 16
+#define MELVORASH_WS 17
+#define MELVORASH_ON 18
+
+/* Which base level is asked for; by the text, the first L, R or AL decides. */
+#define MELVORASH_LEFT_TO_RIGHT 0
+#define MELVORASH_RIGHT_TO_LEFT 1
+#define MELVORASH_BY_TEXT 2
+
+/* The level of a removed position, one whose class is LRE, LRO, RLE, RLO, PDF or BN. It has no other use. */
+#define MELVORASH_REMOVED 255
+
+/* The highest level of a position that is kept, and the most positions that a paragraph may have. */
+#define MELVORASH_HIGHEST_LEVEL 62
+#define MELVORASH_LONGEST 4096
+
+/*
+ * Refusals. A call that refuses has altered no buffer. Where several apply, the first in this order is
+ * given: 1, 3, then 2 or 4 at the first faulty position, then 5, 6, 7, 8 or 10, 9. Cut gives only 1, 2 and
+ * 3, and looks at nothing after the first paragraph.
+ */
+enum melvorash_refusal {
+    MELVORASH_ACCEPTED = 0,
+    MELVORASH_NO_CLASSES = 1,      /* there are no classes */
+    MELVORASH_UNKNOWN_CLASS = 2,   /* a class is above 18; place: the first faulty position */
+    MELVORASH_TOO_LONG = 3,        /* the paragraph has more than 4,096 positions */
+    MELVORASH_EARLY_SEPARATOR = 4, /* B stands before the last position; place: the first faulty position */
+    MELVORASH_BAD_BASE = 5,        /* the base request is above 2, or the base of an order above 1 */
+    MELVORASH_SHORT_LEVELS = 6,    /* the level buffer has fewer positions than the paragraph */
+    MELVORASH_BAD_LEVEL = 7,       /* a lent level is not 0 to 62 on a kept position, or not 255 on a removed
+                                      one; place: the first such position */
+    MELVORASH_BAD_LINE = 8,        /* `from` is not below `to`, or `to` is beyond the paragraph */
+    MELVORASH_SHORT_ORDER = 9,     /* the order buffer is shorter than the line, or than the paragraph for all
+                                      lines, removed positions counted */
+    MELVORASH_BAD_ENDS = 10        /* the ends are none, begin with 0, do not rise strictly, or their last is
+                                      not the paragraph's length */
+};
+
+/*
+ * Accepted: refusal and place are 0, and value is the function's answer. Refused: refusal is one of
+ * enum melvorash_refusal, place a position for 2, 4 and 7 and otherwise 0, and value is 0.
+ * There is no padding: every byte of an answer is determined by the call.
+ */
+typedef struct melvorash_answer {
+    size_t refusal;
+    size_t place;
+    size_t value;
+} melvorash_answer;
+
+/* The length of the first paragraph: it ends after the first B, or where the classes end. */
+melvorash_answer melvorash_cut(const uint8_t *classes, size_t class_count);
+
+/* The base level of one paragraph by its text, 0 or 1. */
+melvorash_answer melvorash_base(const uint8_t *classes, size_t class_count);
+
+/*
+ * Writes the first class_count levels as they stand after X1 to X9, and nothing after them. Answers the
+ * base level used.
+ */
+melvorash_answer melvorash_explicit(const uint8_t *classes, size_t class_count, uint8_t request,
+                                    uint8_t *levels, size_t level_count);
+
+/* The same with the levels after I1 and I2, before any line is known. */
+melvorash_answer melvorash_resolve(const uint8_t *classes, size_t class_count, uint8_t request,
+                                   uint8_t *levels, size_t level_count);
+
+/*
+ * Orders the line from position `from` up to, not including, `to`, by L1 and L2. Takes the levels and the
+ * base level that melvorash_resolve gave. Writes the line's kept positions from left to right and nothing
+ * after them. Answers how many.
+ */
+melvorash_answer melvorash_order_line(const uint8_t *classes, size_t class_count, const uint8_t *levels,
+                                      size_t level_count, uint8_t base, size_t from, size_t to,
+                                      uint16_t *order, size_t order_count);
+
+/*
+ * The same for all lines of the paragraph: `ends` holds the position after each line's last, the last of
+ * them the paragraph's length. Each line's order follows the one before.
+ */
+melvorash_answer melvorash_order_lines(const uint8_t *classes, size_t class_count, const uint8_t *levels,
+                                       size_t level_count, uint8_t base, const uint16_t *ends,
+                                       size_t end_count, uint16_t *order, size_t order_count);
+
+#ifdef __cplusplus
+}
+#endif
+
+#endif

@@ -1,0 +1,293 @@
+/*
+ * Calls every exported function on good and bad input, and compares the answer and every byte of every
+ * buffer with what is wanted. Prints each call that went wrong, then how many there were; ends with status
+ * 1 where any did.
+ */
+#include "melvorash.h"
+
+#include <stdio.h>
+#include <string.h>
+
+enum {
+    L = MELVORASH_L, LRE = MELVORASH_LRE, LRO = MELVORASH_LRO, R = MELVORASH_R, AL = MELVORASH_AL,
+    RLE = MELVORASH_RLE, RLO = MELVORASH_RLO, PDF = MELVORASH_PDF, EN = MELVORASH_EN, ES = MELVORASH_ES,
+    ET = MELVORASH_ET, AN = MELVORASH_AN, CS = MELVORASH_CS, NSM = MELVORASH_NSM, BN = MELVORASH_BN,
+    B = MELVORASH_B, S = MELVORASH_S, WS = MELVORASH_WS, ON = MELVORASH_ON,
+    CLASSES, /* the first number that is no class */
+    X = MELVORASH_REMOVED,
+    TEXT = MELVORASH_BY_TEXT,
+    LONGEST = MELVORASH_LONGEST,
+    ROOM = LONGEST + 4, /* more than any call is lent */
+    UNTOUCHED = 0xA5
+};
+
+/* The functions, each a bit, so that a case can name several. */
+enum {
+    CUT = 1, BASE = 2, EXPLICIT = 4, RESOLVE = 8, ORDER_LINE = 16, ORDER_LINES = 32,
+    LEVELS = EXPLICIT | RESOLVE,
+    ORDER = ORDER_LINE | ORDER_LINES,
+    CHECKED = BASE | LEVELS | ORDER, /* all that check a whole paragraph */
+    ALL = CUT | CHECKED
+};
+
+typedef struct { const uint8_t *at; size_t count; } bytes;
+typedef struct { const uint16_t *at; size_t count; } places;
+
+#define BYTES(...) { (const uint8_t[]){__VA_ARGS__}, sizeof((const uint8_t[]){__VA_ARGS__}) }
+#define PLACES(...) { (const uint16_t[]){__VA_ARGS__}, sizeof((const uint16_t[]){__VA_ARGS__}) / 2 }
+
+/* What one call is lent, and what is wanted of it. */
+typedef struct {
+    const char *name;
+    unsigned functions;
+    bytes classes;
+    uint8_t base; /* a base request, or the base of an order */
+    bytes levels; /* lent to Order */
+    size_t from, to;
+    places ends;
+    size_t room; /* of the buffer that is filled */
+    melvorash_answer wanted;
+    bytes wanted_levels;
+    places wanted_order;
+} example;
+
+/* Everything that a call can reach; two of these are compared as bytes. */
+typedef struct {
+    uint8_t classes[ROOM], lent[ROOM], levels[ROOM];
+    uint16_t ends[ROOM], order[ROOM];
+} buffers;
+
+static int calls, failures;
+
+static melvorash_answer call(const example *e, unsigned function, buffers *b)
+{
+    size_t n = e->classes.count, lent = e->levels.count;
+    switch (function) {
+    case CUT: return melvorash_cut(b->classes, n);
+    case BASE: return melvorash_base(b->classes, n);
+    case EXPLICIT: return melvorash_explicit(b->classes, n, e->base, b->levels, e->room);
+    case RESOLVE: return melvorash_resolve(b->classes, n, e->base, b->levels, e->room);
+    case ORDER_LINE:
+        return melvorash_order_line(b->classes, n, b->lent, lent, e->base, e->from, e->to, b->order, e->room);
+    default:
+        return melvorash_order_lines(b->classes, n, b->lent, lent, e->base, b->ends, e->ends.count, b->order,
+                                     e->room);
+    }
+}
+
+static const char *name_of(unsigned function)
+{
+    switch (function) {
+    case CUT: return "cut";
+    case BASE: return "base";
+    case EXPLICIT: return "explicit";
+    case RESOLVE: return "resolve";
+    case ORDER_LINE: return "order_line";
+    default: return "order_lines";
+    }
+}
+
+static void copy(void *to, const void *from, size_t size)
+{
+    if (size != 0)
+        memcpy(to, from, size);
+}
+
+static void lend(const example *e, buffers *b)
+{
+    memset(b, UNTOUCHED, sizeof *b);
+    copy(b->classes, e->classes.at, e->classes.count);
+    copy(b->lent, e->levels.at, e->levels.count);
+    copy(b->ends, e->ends.at, e->ends.count * 2);
+}
+
+static void judge(const char *function, const char *name, melvorash_answer got, melvorash_answer wanted,
+                  int buffers_right)
+{
+    int answer_right = memcmp(&got, &wanted, sizeof got) == 0;
+    calls++;
+    if (answer_right && buffers_right)
+        return;
+    failures++;
+    printf("failed: %s on %s: answer %zu %zu %zu, wanted %zu %zu %zu%s\n", function, name, got.refusal,
+           got.place, got.value, wanted.refusal, wanted.place, wanted.value,
+           buffers_right ? "" : "; a buffer is not as wanted");
+}
+
+/* One call. Beyond what is wanted of the buffer that is filled, every byte has to stay as it was. */
+static void try_one(const example *e, unsigned function)
+{
+    static buffers wanted, lent;
+    lend(e, &lent);
+    lend(e, &wanted);
+    copy(wanted.levels, e->wanted_levels.at, e->wanted_levels.count);
+    copy(wanted.order, e->wanted_order.at, e->wanted_order.count * 2);
+    melvorash_answer got = call(e, function, &lent);
+    judge(name_of(function), e->name, got, e->wanted, memcmp(&lent, &wanted, sizeof lent) == 0);
+}
+
+static void try_all(const example *examples, size_t count)
+{
+    for (size_t i = 0; i < count; i++)
+        for (unsigned function = CUT; function <= ORDER_LINES; function *= 2)
+            if (examples[i].functions & function)
+                try_one(&examples[i], function);
+}
+
+#define TRY_ALL(examples) try_all(examples, sizeof(examples) / sizeof *(examples))
+
+/* ---- document 01's table: classes, request, base used, resolved levels, the order of one line */
+typedef struct {
+    const char *name;
+    bytes classes;
+    uint8_t request, base;
+    bytes levels;
+    places order;
+} row;
+
+static const row rows[] = {
+    {"L", BYTES(L), TEXT, 0, BYTES(0), PLACES(0)},
+    {"AL EN", BYTES(AL, EN), TEXT, 1, BYTES(1, 2), PLACES(1, 0)},
+    {"L WS EN", BYTES(L, WS, EN), TEXT, 0, BYTES(0, 0, 0), PLACES(0, 1, 2)},
+    {"EN CS EN", BYTES(EN, CS, EN), 1, 1, BYTES(2, 2, 2), PLACES(0, 1, 2)},
+    {"EN CS CS EN", BYTES(EN, CS, CS, EN), 1, 1, BYTES(2, 1, 1, 2), PLACES(3, 2, 1, 0)},
+    {"AN ET EN", BYTES(AN, ET, EN), 1, 1, BYTES(2, 2, 2), PLACES(0, 1, 2)},
+    {"R WS L at 0", BYTES(R, WS, L), 0, 0, BYTES(1, 0, 0), PLACES(0, 1, 2)},
+    {"R WS L at 1", BYTES(R, WS, L), 1, 1, BYTES(1, 1, 2), PLACES(2, 1, 0)},
+    {"RLE L PDF R", BYTES(RLE, L, PDF, R), 0, 0, BYTES(X, 2, X, 1), PLACES(3, 1)},
+    {"EN BN CS EN", BYTES(EN, BN, CS, EN), 1, 1, BYTES(2, X, 2, 2), PLACES(0, 2, 3)},
+    {"R S R", BYTES(R, S, R), 0, 0, BYTES(1, 1, 1), PLACES(0, 1, 2)},
+    {"PDF L", BYTES(PDF, L), 0, 0, BYTES(X, 0), PLACES(1)},
+    {"NSM", BYTES(NSM), 1, 1, BYTES(1), PLACES(0)},
+    {"B", BYTES(B), TEXT, 0, BYTES(0), PLACES(0)},
+    {"R WS R", BYTES(R, WS, R), 0, 0, BYTES(1, 1, 1), PLACES(2, 1, 0)},
+    {"LRE RLO LRO: no position kept", BYTES(LRE, RLO, LRO), 0, 0, BYTES(X, X, X), {NULL, 0}},
+    {"R ES AN ON: no row of the page", BYTES(R, ES, AN, ON), TEXT, 1, BYTES(1, 1, 2, 1), PLACES(3, 2, 1, 0)},
+};
+
+/* A row goes through Cut, Resolve and both forms of Order, with buffers that are longer than they need be. */
+static void try_row(const row *r)
+{
+    uint16_t end = (uint16_t)r->classes.count;
+    const example examples[] = {
+        {.name = r->name, .functions = CUT, .classes = r->classes, .wanted = {0, 0, r->classes.count}},
+        {.name = r->name, .functions = RESOLVE, .classes = r->classes, .base = r->request,
+         .room = r->classes.count + 3, .wanted = {0, 0, r->base}, .wanted_levels = r->levels},
+        {.name = r->name, .functions = ORDER, .classes = r->classes, .base = r->base, .levels = r->levels,
+         .to = r->classes.count, .ends = {&end, 1}, .room = r->classes.count + 3,
+         .wanted = {0, 0, r->order.count}, .wanted_order = r->order},
+    };
+    TRY_ALL(examples);
+}
+
+/* ---- what the rows leave out of good input */
+static const example accepted[] = {
+    {.name = "L B R", .functions = CUT, .classes = BYTES(L, B, R), .wanted = {0, 0, 2}},
+    {.name = "B and an unknown class after it", .functions = CUT, .classes = BYTES(B, CLASSES), .wanted = {0, 0, 1}},
+    {.name = "WS EN", .functions = BASE, .classes = BYTES(WS, EN), .wanted = {0, 0, 0}},
+    {.name = "LRE AL B", .functions = BASE, .classes = BYTES(LRE, AL, B), .wanted = {0, 0, 1}},
+    {.name = "RLE L PDF R", .functions = EXPLICIT, .classes = BYTES(RLE, L, PDF, R), .room = 6,
+     .wanted_levels = BYTES(X, 1, X, 0)},
+    {.name = "AL EN", .functions = EXPLICIT, .classes = BYTES(AL, EN), .base = TEXT, .room = 2,
+     .wanted = {0, 0, 1}, .wanted_levels = BYTES(1, 1)},
+    {.name = "R WS R, its first line", .functions = ORDER_LINE, .classes = BYTES(R, WS, R),
+     .levels = BYTES(1, 1, 1), .to = 2, .room = 2, .wanted = {0, 0, 2}, .wanted_order = PLACES(0, 1)},
+    {.name = "R WS R, its second line", .functions = ORDER_LINE, .classes = BYTES(R, WS, R),
+     .levels = BYTES(1, 1, 1, 99), .from = 2, .to = 3, .room = 4, .wanted = {0, 0, 1}, .wanted_order = PLACES(2)},
+    {.name = "R WS R, both lines", .functions = ORDER_LINES, .classes = BYTES(R, WS, R),
+     .levels = BYTES(1, 1, 1), .ends = PLACES(2, 3), .room = 3, .wanted = {0, 0, 3},
+     .wanted_order = PLACES(0, 1, 2)},
+};
+
+/* ---- bad input, most of it with a second fault that is not the one to be given */
+static const example refused[] = {
+    {.name = "no classes", .functions = ALL, .base = 3, .wanted = {1, 0, 0}},
+    {.name = "L 19", .functions = ALL, .classes = BYTES(L, CLASSES), .base = 3, .wanted = {2, 1, 0}},
+    {.name = "L L 255 B L", .functions = ALL, .classes = BYTES(L, L, 255, B, L), .wanted = {2, 2, 0}},
+    {.name = "L B 19", .functions = CHECKED, .classes = BYTES(L, B, CLASSES), .base = 3, .wanted = {4, 1, 0}},
+    {.name = "request 3, no room", .functions = LEVELS, .classes = BYTES(L, R), .base = 3, .wanted = {5, 0, 0}},
+    {.name = "room for 1 of 2", .functions = LEVELS, .classes = BYTES(L, R), .room = 1, .wanted = {6, 0, 0}},
+    {.name = "base 2, one level", .functions = ORDER, .classes = BYTES(L, R), .base = 2, .levels = BYTES(0),
+     .wanted = {5, 0, 0}},
+    {.name = "one level, and that one bad", .functions = ORDER, .classes = BYTES(L, R), .levels = BYTES(63),
+     .wanted = {6, 0, 0}},
+    {.name = "level 63, no line", .functions = ORDER, .classes = BYTES(L, R), .levels = BYTES(62, 63),
+     .wanted = {7, 1, 0}},
+    {.name = "level 255 kept", .functions = ORDER, .classes = BYTES(L, R, L), .levels = BYTES(0, X, 63),
+     .wanted = {7, 1, 0}},
+    {.name = "level 0 removed", .functions = ORDER, .classes = BYTES(L, L, PDF), .levels = BYTES(0, 0, 0),
+     .wanted = {7, 2, 0}},
+    {.name = "line from 1 to 1, no room", .functions = ORDER_LINE, .classes = BYTES(L, R), .levels = BYTES(0, 1),
+     .from = 1, .to = 1, .wanted = {8, 0, 0}},
+    {.name = "line to 3 of 2, no room", .functions = ORDER_LINE, .classes = BYTES(L, R), .levels = BYTES(0, 1),
+     .to = 3, .wanted = {8, 0, 0}},
+    {.name = "line to the highest number", .functions = ORDER_LINE, .classes = BYTES(L, R),
+     .levels = BYTES(0, 1), .to = (size_t)-1, .room = 4, .wanted = {8, 0, 0}},
+    {.name = "room for 1 of 2, one removed", .functions = ORDER_LINE, .classes = BYTES(L, PDF, R),
+     .levels = BYTES(0, X, 1), .to = 2, .room = 1, .wanted = {9, 0, 0}},
+    {.name = "no ends, no room", .functions = ORDER_LINES, .classes = BYTES(L, R), .levels = BYTES(0, 1),
+     .wanted = {10, 0, 0}},
+    {.name = "ends 0 2", .functions = ORDER_LINES, .classes = BYTES(L, R), .levels = BYTES(0, 1),
+     .ends = PLACES(0, 2), .room = 4, .wanted = {10, 0, 0}},
+    {.name = "ends 1 1 2", .functions = ORDER_LINES, .classes = BYTES(L, R), .levels = BYTES(0, 1),
+     .ends = PLACES(1, 1, 2), .room = 4, .wanted = {10, 0, 0}},
+    {.name = "ends 1, no room", .functions = ORDER_LINES, .classes = BYTES(L, R), .levels = BYTES(0, 1),
+     .ends = PLACES(1), .wanted = {10, 0, 0}},
+    {.name = "ends 1 2, room for 1", .functions = ORDER_LINES, .classes = BYTES(L, R), .levels = BYTES(0, 1),
+     .ends = PLACES(1, 2), .room = 1, .wanted = {9, 0, 0}},
+};
+
+/* ---- the longest paragraph, and one position more */
+static void try_longest(void)
+{
+    static uint8_t zeros[LONGEST + 1], unknown_last[LONGEST + 1];
+    static uint16_t counted[LONGEST];
+    static const uint16_t end = LONGEST;
+    for (int i = 0; i < LONGEST; i++)
+        counted[i] = (uint16_t)i;
+    unknown_last[LONGEST] = CLASSES;
+    const bytes longest = {zeros, LONGEST}, longer = {zeros, LONGEST + 1};
+    const places whole = {counted, LONGEST};
+    const example examples[] = {
+        {.name = "4096 L", .functions = CUT, .classes = longest, .wanted = {0, 0, LONGEST}},
+        {.name = "4096 L", .functions = BASE, .classes = longest},
+        {.name = "4096 L", .functions = LEVELS, .classes = longest, .room = LONGEST, .wanted_levels = longest},
+        {.name = "4096 L", .functions = ORDER, .classes = longest, .levels = longest, .to = LONGEST,
+         .ends = {&end, 1}, .room = LONGEST, .wanted = {0, 0, LONGEST}, .wanted_order = whole},
+        {.name = "4097 L", .functions = ALL, .classes = longer, .base = 3, .wanted = {3, 0, 0}},
+        {.name = "4096 L 19", .functions = ALL, .classes = {unknown_last, LONGEST + 1}, .wanted = {3, 0, 0}},
+    };
+    TRY_ALL(examples);
+}
+
+/* ---- a null pointer with count 0 is an empty buffer */
+static void try_null(void)
+{
+    static const uint8_t l = L;
+    static const uint16_t end = 1;
+    const melvorash_answer none = {1, 0, 0}, no_levels = {6, 0, 0}, no_order = {9, 0, 0}, no_ends = {10, 0, 0};
+    judge("cut", "null", melvorash_cut(NULL, 0), none, 1);
+    judge("base", "null", melvorash_base(NULL, 0), none, 1);
+    judge("explicit", "null", melvorash_explicit(NULL, 0, 0, NULL, 0), none, 1);
+    judge("explicit", "null levels", melvorash_explicit(&l, 1, 0, NULL, 0), no_levels, 1);
+    judge("resolve", "null", melvorash_resolve(NULL, 0, 0, NULL, 0), none, 1);
+    judge("resolve", "null levels", melvorash_resolve(&l, 1, 0, NULL, 0), no_levels, 1);
+    judge("order_line", "null", melvorash_order_line(NULL, 0, NULL, 0, 0, 0, 1, NULL, 0), none, 1);
+    judge("order_line", "null levels", melvorash_order_line(&l, 1, NULL, 0, 0, 0, 1, NULL, 0), no_levels, 1);
+    judge("order_line", "null order", melvorash_order_line(&l, 1, &l, 1, 0, 0, 1, NULL, 0), no_order, 1);
+    judge("order_lines", "null", melvorash_order_lines(NULL, 0, NULL, 0, 0, NULL, 0, NULL, 0), none, 1);
+    judge("order_lines", "null ends", melvorash_order_lines(&l, 1, &l, 1, 0, NULL, 0, NULL, 0), no_ends, 1);
+    judge("order_lines", "null order", melvorash_order_lines(&l, 1, &l, 1, 0, &end, 1, NULL, 0), no_order, 1);
+}
+
+int main(void)
+{
+    for (size_t i = 0; i < sizeof rows / sizeof *rows; i++)
+        try_row(&rows[i]);
+    TRY_ALL(accepted);
+    TRY_ALL(refused);
+    try_longest();
+    try_null();
+    printf("C: %d calls, %d failed\n", calls, failures);
+    return failures != 0;
+}
