@@ -1,0 +1,97 @@
+//! The embedding levels and the order of bidirectional text, by section 3.12 of the Unicode Standard 3.0.
+//!
+//! A paragraph is lent as the numbers of its [`Class`]es, one byte for each position. Resolve its levels,
+//! choose where its lines end, and order each line:
+//!
+//! ```
+//! use melvorash::Class::{EN, ET, R, WS};
+//!
+//! let classes = [R, WS, EN, ET].map(melvorash::Class::number);
+//! let (mut levels, mut order) = ([0; 4], [0; 4]);
+//! let base = melvorash::resolve_levels(&classes, melvorash::BY_TEXT, &mut levels)?;
+//! let placed = melvorash::order_line(&classes, &levels, base, 0, 4, &mut order)?;
+//! assert_eq!((base, levels), (1, [1, 1, 2, 2]));
+//! assert_eq!(order[..placed], [2, 3, 1, 0]);
+//! # Ok::<(), melvorash::Refusal>(())
+//! ```
+//!
+//! Every function takes any input whatever. What it cannot take it refuses, and then it has altered nothing.
+#![deny(missing_docs, unsafe_code)]
+
+#[allow(unsafe_code)]
+mod boundary;
+mod class;
+mod refusal;
+
+pub use class::Class;
+pub use refusal::Refusal;
+
+use refusal::outcome;
+
+/// The request for base level 0.
+pub const LEFT_TO_RIGHT: u8 = 0;
+/// The request for base level 1.
+pub const RIGHT_TO_LEFT: u8 = 1;
+/// The request for the base level that the first L, R or AL of the text asks for.
+pub const BY_TEXT: u8 = 2;
+/// The level of a removed position, one of class LRE, LRO, RLE, RLO, PDF or BN.
+pub const REMOVED: u8 = 255;
+/// The most positions that a paragraph may have.
+pub const LONGEST: usize = 4096;
+
+/// The length of the first paragraph: it ends after the first B, or where the classes end.
+pub fn cut(classes: &[u8]) -> Result<usize, Refusal> {
+    outcome(boundary::cut(classes))
+}
+
+/// The first paragraph as a part of the lent classes, empty exactly where [`cut`] refuses.
+pub fn cut_part(classes: &[u8]) -> &[u8] {
+    &classes[..cut(classes).unwrap_or(0)]
+}
+
+/// The base level of one paragraph by its text, 0 or 1.
+pub fn base(classes: &[u8]) -> Result<u8, Refusal> {
+    level(boundary::base(classes))
+}
+
+/// Writes a level for each position as it stands after X1 to X9, and nothing after them. Answers the base
+/// level used.
+pub fn explicit_levels(classes: &[u8], request: u8, levels: &mut [u8]) -> Result<u8, Refusal> {
+    level(boundary::explicit(classes, request, levels))
+}
+
+/// Writes a level for each position as it stands after I1 and I2, and nothing after them. Answers the base
+/// level used.
+pub fn resolve_levels(classes: &[u8], request: u8, levels: &mut [u8]) -> Result<u8, Refusal> {
+    level(boundary::resolve(classes, request, levels))
+}
+
+/// Writes the kept positions of the line `from..to` from left to right, and nothing after them. Takes the
+/// levels and the base level that [`resolve_levels`] gave. Answers how many positions.
+pub fn order_line(
+    classes: &[u8],
+    levels: &[u8],
+    base: u8,
+    from: usize,
+    to: usize,
+    order: &mut [u16],
+) -> Result<usize, Refusal> {
+    outcome(boundary::order_line(classes, levels, base, from, to, order))
+}
+
+/// The same for all lines: `ends` holds the position after each line's last, the last of them the
+/// paragraph's length. Each line's order follows the one before.
+pub fn order_lines(
+    classes: &[u8],
+    levels: &[u8],
+    base: u8,
+    ends: &[u16],
+    order: &mut [u16],
+) -> Result<usize, Refusal> {
+    outcome(boundary::order_lines(classes, levels, base, ends, order))
+}
+
+/// A base level is 0 or 1, so it fits a byte.
+fn level(answer: boundary::Answer) -> Result<u8, Refusal> {
+    outcome(answer).map(|level| level as u8)
+}

@@ -1,0 +1,92 @@
+use crate::boundary::Answer;
+use std::fmt;
+
+/// Why a call was refused. Then no lent buffer has changed. A position is held where one is at fault: the
+/// first such from the left.
+#[derive(Clone, Copy, Debug, PartialEq, Eq, Hash)]
+pub enum Refusal {
+    /// There are no classes.
+    NoClasses,
+    /// A class is above 18.
+    UnknownClass(usize),
+    /// The paragraph has more than 4,096 positions.
+    TooLong,
+    /// Class B stands before the last position.
+    EarlySeparator(usize),
+    /// The base request is above 2, or the base of an order above 1.
+    BadBase,
+    /// The level buffer has fewer positions than the paragraph.
+    ShortLevels,
+    /// A lent level is not 0 to 62 on a kept position, or not 255 on a removed one.
+    BadLevel(usize),
+    /// The line's `from` is not below its `to`, or its `to` is beyond the paragraph.
+    BadLine,
+    /// The order buffer is shorter than the line, or than the paragraph for all lines.
+    ShortOrder,
+    /// The ends are none, begin with 0, do not rise strictly, or their last is not the paragraph's length.
+    BadEnds,
+}
+
+impl Refusal {
+    /// The number of the refusal, 1 to 10.
+    pub fn number(self) -> usize {
+        match self {
+            Refusal::NoClasses => 1,
+            Refusal::UnknownClass(_) => 2,
+            Refusal::TooLong => 3,
+            Refusal::EarlySeparator(_) => 4,
+            Refusal::BadBase => 5,
+            Refusal::ShortLevels => 6,
+            Refusal::BadLevel(_) => 7,
+            Refusal::BadLine => 8,
+            Refusal::ShortOrder => 9,
+            Refusal::BadEnds => 10,
+        }
+    }
+
+    /// The position at fault, and 0 where none is.
+    pub fn place(self) -> usize {
+        match self {
+            Refusal::UnknownClass(at) | Refusal::EarlySeparator(at) | Refusal::BadLevel(at) => at,
+            _ => 0,
+        }
+    }
+}
+
+impl fmt::Display for Refusal {
+    fn fmt(&self, f: &mut fmt::Formatter<'_>) -> fmt::Result {
+        match self {
+            Refusal::NoClasses => write!(f, "there are no classes"),
+            Refusal::UnknownClass(at) => write!(f, "the class at position {at} is unknown"),
+            Refusal::TooLong => write!(f, "the paragraph has more than 4,096 positions"),
+            Refusal::EarlySeparator(at) => write!(f, "B stands at position {at}, which is not the last"),
+            Refusal::BadBase => write!(f, "there is no such base level"),
+            Refusal::ShortLevels => write!(f, "the level buffer is shorter than the paragraph"),
+            Refusal::BadLevel(at) => write!(f, "the level at position {at} is none that resolving gives"),
+            Refusal::BadLine => write!(f, "the line is empty or goes beyond the paragraph"),
+            Refusal::ShortOrder => write!(f, "the order buffer is too short"),
+            Refusal::BadEnds => write!(f, "the line ends do not rise to the paragraph's length"),
+        }
+    }
+}
+
+impl std::error::Error for Refusal {}
+
+/// The value of an accepted call, or the refusal.
+pub(crate) fn outcome(answer: Answer) -> Result<usize, Refusal> {
+    let at = answer.place;
+    match answer.refusal {
+        0 => Ok(answer.value),
+        1 => Err(Refusal::NoClasses),
+        2 => Err(Refusal::UnknownClass(at)),
+        3 => Err(Refusal::TooLong),
+        4 => Err(Refusal::EarlySeparator(at)),
+        5 => Err(Refusal::BadBase),
+        6 => Err(Refusal::ShortLevels),
+        7 => Err(Refusal::BadLevel(at)),
+        8 => Err(Refusal::BadLine),
+        9 => Err(Refusal::ShortOrder),
+        10 => Err(Refusal::BadEnds),
+        number => unreachable!("the library gives no refusal {number}"),
+    }
+}

@@ -1,0 +1,275 @@
+//! Every function on good and bad input: the answer, and every place of every buffer that was lent.
+use melvorash::Class::{self, *};
+use melvorash::Refusal::{self, *};
+use melvorash::{BY_TEXT, LONGEST, REMOVED};
+
+const CLASSES: [Class; 19] = [L, LRE, LRO, R, AL, RLE, RLO, PDF, EN, ES, ET, AN, CS, NSM, BN, B, S, WS, ON];
+const X: u8 = REMOVED;
+
+/// What a buffer holds where nothing was written.
+const UNTOUCHED: u8 = 0xA5;
+/// How many places lie after those that are lent.
+const BEYOND: usize = 4;
+
+#[derive(Clone, Copy, Debug)]
+enum Job {
+    Cut,
+    Base,
+    Explicit,
+    Resolve,
+    OrderLine,
+    OrderLines,
+}
+
+use Job::*;
+
+const LEVELS: &[Job] = &[Explicit, Resolve];
+const ORDER: &[Job] = &[OrderLine, OrderLines];
+/// All that check a whole paragraph.
+const CHECKED: &[Job] = &[Base, Explicit, Resolve, OrderLine, OrderLines];
+const ALL: &[Job] = &[Cut, Base, Explicit, Resolve, OrderLine, OrderLines];
+
+/// What a call is lent; each job takes of it what it has.
+#[derive(Clone, Debug, Default, PartialEq)]
+struct Lent {
+    classes: Vec<u8>,
+    /// a base request, or the base of an order
+    base: u8,
+    levels: Vec<u8>,
+    from: usize,
+    to: usize,
+    ends: Vec<u16>,
+    /// how many places the buffer has that is filled
+    room: usize,
+}
+
+/// What a call answered and left in the two buffers that a job may fill.
+#[derive(Debug, PartialEq)]
+struct Outcome {
+    answer: Result<usize, Refusal>,
+    levels: Vec<u8>,
+    order: Vec<u16>,
+}
+
+/// An outcome in which a buffer begins with what was written and is untouched after that.
+fn outcome(room: usize, answer: Result<usize, Refusal>, levels: &[u8], order: &[u16]) -> Outcome {
+    let (mut all_levels, mut all_order) = (levels.to_vec(), order.to_vec());
+    all_levels.resize(room + BEYOND, UNTOUCHED);
+    all_order.resize(room + BEYOND, u16::from(UNTOUCHED));
+    Outcome { answer, levels: all_levels, order: all_order }
+}
+
+fn run(job: Job, given: &Lent) -> Outcome {
+    let lent = given.clone();
+    let mut left = outcome(lent.room, Ok(0), &[], &[]);
+    let levels = &mut left.levels[..lent.room];
+    let order = &mut left.order[..lent.room];
+    let wide = |level: u8| usize::from(level);
+    let Lent { classes, base, levels: resolved, from, to, ends, .. } = &lent;
+    left.answer = match job {
+        Cut => melvorash::cut(classes),
+        Base => melvorash::base(classes).map(wide),
+        Explicit => melvorash::explicit_levels(classes, *base, levels).map(wide),
+        Resolve => melvorash::resolve_levels(classes, *base, levels).map(wide),
+        OrderLine => melvorash::order_line(classes, resolved, *base, *from, *to, order),
+        OrderLines => melvorash::order_lines(classes, resolved, *base, ends, order),
+    };
+    assert_eq!(&lent, given, "{job:?} wrote to what it only reads");
+    left
+}
+
+fn accepts(job: Job, lent: &Lent, value: usize, levels: &[u8], order: &[u16]) {
+    let wanted = outcome(lent.room, Ok(value), levels, order);
+    assert_eq!(run(job, lent), wanted, "{job:?} on {lent:?}");
+}
+
+fn refuses(jobs: &[Job], lent: &Lent, refusal: Refusal) {
+    for &job in jobs {
+        let wanted = outcome(lent.room, Err(refusal), &[], &[]);
+        assert_eq!(run(job, lent), wanted, "{job:?} on {lent:?}");
+    }
+}
+
+/// The numbers of classes that are given by name; a number stands for itself.
+fn classes(names: &str) -> Vec<u8> {
+    let number = |name: &str| match CLASSES.iter().find(|class| format!("{class:?}") == name) {
+        Some(class) => class.number(),
+        None => name.parse().expect("a class's name or a number"),
+    };
+    names.split_whitespace().map(number).collect()
+}
+
+#[test]
+fn classes_have_their_numbers() {
+    for (number, class) in CLASSES.iter().enumerate() {
+        assert_eq!(usize::from(class.number()), number);
+    }
+}
+
+/// Document 01's table: classes, request, base used, resolved levels, the order of one line.
+type Row = (&'static str, u8, u8, &'static [u8], &'static [u16]);
+
+const ROWS: &[Row] = &[
+    ("L", BY_TEXT, 0, &[0], &[0]),
+    ("AL EN", BY_TEXT, 1, &[1, 2], &[1, 0]),
+    ("L WS EN", BY_TEXT, 0, &[0, 0, 0], &[0, 1, 2]),
+    ("EN CS EN", 1, 1, &[2, 2, 2], &[0, 1, 2]),
+    ("EN CS CS EN", 1, 1, &[2, 1, 1, 2], &[3, 2, 1, 0]),
+    ("AN ET EN", 1, 1, &[2, 2, 2], &[0, 1, 2]),
+    ("R WS L", 0, 0, &[1, 0, 0], &[0, 1, 2]),
+    ("R WS L", 1, 1, &[1, 1, 2], &[2, 1, 0]),
+    ("RLE L PDF R", 0, 0, &[X, 2, X, 1], &[3, 1]),
+    ("EN BN CS EN", 1, 1, &[2, X, 2, 2], &[0, 2, 3]),
+    ("R S R", 0, 0, &[1, 1, 1], &[0, 1, 2]),
+    ("PDF L", 0, 0, &[X, 0], &[1]),
+    ("NSM", 1, 1, &[1], &[0]),
+    ("B", BY_TEXT, 0, &[0], &[0]),
+    ("R WS R", 0, 0, &[1, 1, 1], &[2, 1, 0]),
+    // no row of the page: no position is kept
+    ("LRE RLO LRO", 0, 0, &[X, X, X], &[]),
+];
+
+#[test]
+fn rows_of_the_table() {
+    for &(names, request, base, levels, order) in ROWS {
+        let classes = classes(names);
+        let (to, ends) = (classes.len(), vec![classes.len() as u16]);
+        let resolve = Lent { classes, base: request, room: to + 3, ..Lent::default() };
+        accepts(Cut, &resolve, to, &[], &[]);
+        accepts(Resolve, &resolve, base.into(), levels, &[]);
+        let lines = Lent { base, levels: levels.to_vec(), to, ends, ..resolve };
+        accepts(OrderLine, &lines, order.len(), &[], order);
+        accepts(OrderLines, &lines, order.len(), &[], order);
+    }
+}
+
+#[test]
+fn paragraphs_are_cut() {
+    for (names, length) in [("L B R", 2), ("B 19", 1), ("L R", 2)] {
+        let classes = classes(names);
+        assert_eq!(melvorash::cut(&classes), Ok(length));
+        assert_eq!(melvorash::cut_part(&classes), &classes[..length]);
+    }
+    for names in ["", "L 19 B"] {
+        assert!(melvorash::cut_part(&classes(names)).is_empty());
+    }
+}
+
+#[test]
+fn base_is_by_the_text() {
+    for (names, level) in [("WS EN", 0), ("LRE AL B", 1), ("NSM R L", 1), ("L R", 0)] {
+        assert_eq!(melvorash::base(&classes(names)), Ok(level));
+    }
+}
+
+#[test]
+fn explicit_levels_come_before_the_rules_on_types() {
+    let rle = Lent { classes: classes("RLE L PDF R"), room: 6, ..Lent::default() };
+    accepts(Explicit, &rle, 0, &[X, 1, X, 0], &[]);
+    let al = Lent { classes: classes("AL EN"), base: BY_TEXT, room: 2, ..Lent::default() };
+    accepts(Explicit, &al, 1, &[1, 1], &[]);
+}
+
+#[test]
+fn lines_are_ordered_apart() {
+    let whole = Lent { classes: classes("R WS R"), levels: vec![1, 1, 1], room: 4, ..Lent::default() };
+    accepts(OrderLine, &Lent { from: 0, to: 2, ..whole.clone() }, 2, &[], &[0, 1]);
+    accepts(OrderLine, &Lent { from: 2, to: 3, ..whole.clone() }, 1, &[], &[2]);
+    accepts(OrderLines, &Lent { ends: vec![2, 3], ..whole }, 3, &[], &[0, 1, 2]);
+}
+
+/// Most bad input here has a second fault, which is not the one to be given.
+#[test]
+fn bad_classes_are_refused() {
+    let bad = |names: &str| Lent { classes: classes(names), base: 3, ..Lent::default() };
+    refuses(ALL, &bad(""), NoClasses);
+    refuses(ALL, &bad("L 19"), UnknownClass(1));
+    refuses(ALL, &bad("L L 255 B L"), UnknownClass(2));
+    refuses(CHECKED, &bad("L B 19"), EarlySeparator(1));
+    let longer = Lent { classes: vec![0; LONGEST + 1], base: 3, ..Lent::default() };
+    refuses(ALL, &longer, TooLong);
+    let mut unknown_last = longer;
+    unknown_last.classes[LONGEST] = 19;
+    refuses(ALL, &unknown_last, TooLong);
+}
+
+#[test]
+fn bad_requests_and_short_levels_are_refused() {
+    let lent = |base, room| Lent { classes: classes("L R"), base, room, ..Lent::default() };
+    refuses(LEVELS, &lent(3, 0), BadBase);
+    refuses(LEVELS, &lent(255, 2), BadBase);
+    refuses(LEVELS, &lent(0, 1), ShortLevels);
+}
+
+#[test]
+fn bad_levels_are_refused() {
+    let lent = |names: &str, base, levels: &[u8]| Lent {
+        classes: classes(names),
+        base,
+        levels: levels.to_vec(),
+        ..Lent::default()
+    };
+    refuses(ORDER, &lent("L R", 2, &[0]), BadBase);
+    refuses(ORDER, &lent("L R", 0, &[63]), ShortLevels);
+    refuses(ORDER, &lent("L R", 0, &[62, 63]), BadLevel(1));
+    refuses(ORDER, &lent("L R L", 0, &[0, X, 63]), BadLevel(1));
+    refuses(ORDER, &lent("L L PDF", 0, &[0, 0, 0]), BadLevel(2));
+}
+
+#[test]
+fn bad_lines_and_short_orders_are_refused() {
+    let sound = Lent { classes: classes("L PDF R"), levels: vec![0, X, 1], ..Lent::default() };
+    let line = |from, to, room| Lent { from, to, room, ..sound.clone() };
+    refuses(&[OrderLine], &line(1, 1, 0), BadLine);
+    refuses(&[OrderLine], &line(2, 1, 4), BadLine);
+    refuses(&[OrderLine], &line(0, 4, 0), BadLine);
+    refuses(&[OrderLine], &line(0, usize::MAX, 4), BadLine);
+    refuses(&[OrderLine], &line(0, 2, 1), ShortOrder);
+    let lines = |ends: &[u16], room| Lent { ends: ends.to_vec(), room, ..sound.clone() };
+    for ends in [&[][..], &[0, 3], &[2, 2, 3], &[2], &[4]] {
+        refuses(&[OrderLines], &lines(ends, 0), BadEnds);
+    }
+    refuses(&[OrderLines], &lines(&[1, 3], 2), ShortOrder);
+}
+
+#[test]
+fn the_longest_paragraph_is_taken() {
+    let zeros = vec![0; LONGEST];
+    let counted: Vec<u16> = (0..LONGEST as u16).collect();
+    let longest = Lent {
+        classes: zeros.clone(),
+        levels: zeros.clone(),
+        to: LONGEST,
+        ends: vec![LONGEST as u16],
+        room: LONGEST,
+        ..Lent::default()
+    };
+    accepts(Cut, &longest, LONGEST, &[], &[]);
+    accepts(Base, &longest, 0, &[], &[]);
+    accepts(Explicit, &longest, 0, &zeros, &[]);
+    accepts(Resolve, &longest, 0, &zeros, &[]);
+    accepts(OrderLine, &longest, LONGEST, &[], &counted);
+    accepts(OrderLines, &longest, LONGEST, &[], &counted);
+}
+
+#[test]
+fn refusals_have_their_numbers_places_and_sentences() {
+    let all = [
+        NoClasses,
+        UnknownClass(7),
+        TooLong,
+        EarlySeparator(7),
+        BadBase,
+        ShortLevels,
+        BadLevel(7),
+        BadLine,
+        ShortOrder,
+        BadEnds,
+    ];
+    for (before, refusal) in all.iter().enumerate() {
+        let has_place = matches!(refusal, UnknownClass(_) | EarlySeparator(_) | BadLevel(_));
+        assert_eq!(refusal.number(), before + 1);
+        assert_eq!(refusal.place(), if has_place { 7 } else { 0 });
+        assert_eq!(refusal.to_string().contains('7'), has_place);
+    }
+}
