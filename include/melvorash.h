@@ -2,8 +2,8 @@
  * Melvorash for C and C++: the embedding levels and the order of bidirectional text, by section 3.12 of
  * the Unicode Standard 3.0.
  *
- * Link libmelvorash_c.a. Every function takes any input whatever, answers in one struct and has no other
- * effect than to fill the buffer that it is lent. Each is proved to do what is said here.
+ * Link libmelvorash_c.a, for x86-64 Linux. Every function takes any numbers whatever, answers in one struct
+ * and does nothing else than fill the buffer that it is lent. What is said of each below is proved.
  *
  * What the caller owes, since nothing can check it:
  *   - A pointer and the count after it fit each other: that many elements can be read, and for a buffer

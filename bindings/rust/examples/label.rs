@@ -23,7 +23,7 @@ fn shown(label: &[char]) -> Result<String, Refusal> {
 }
 
 fn main() -> Result<(), Refusal> {
-    let label = "COTTON 25% (soft)";
+    let label = "COTTON 25% soft";
     let characters: Vec<char> = label.chars().collect();
     println!("in memory: {label}");
     println!("as shown:  {}", shown(&characters)?);

@@ -17,6 +17,7 @@ pub struct Answer {
     pub value: usize,
 }
 
+// An accepted answer.
 fn of_value(value: usize) -> Answer
     ensures { λ r. ⌜ Gives (accepted value) r ⌝ }
 {
@@ -27,6 +28,7 @@ fn of_value(value: usize) -> Answer
     }
 }
 
+// A refused one.
 fn of_refusal(refusal: Refusal) -> Answer
     ensures { λ r. ⌜ Gives (refused (numberOf refusal) (placeOf refusal)) r ⌝ }
 {
@@ -39,6 +41,7 @@ fn of_refusal(refusal: Refusal) -> Answer
     }
 }
 
+// Each job's answer: the paragraph's length, the base level, the count of positions placed.
 pub(crate) fn of_cut(answer: CutAnswer) -> Answer
     ensures { λ r. ⌜ Gives (cutPage answer) r ⌝ }
 {

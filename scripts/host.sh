@@ -1,0 +1,80 @@
+# What builds and runs programs for x86-64 Linux here; to be sourced by bash. On an x86-64 machine that is gcc
+# and cargo. On any other it is Debian's cross compiler, a Rust that has the x86-64 standard library, and the
+# emulator of qemu-user. What is missing is installed by apt-get where this runs as root, and else named.
+#
+#   want_runner     sets RUN, the words before a program that is to be run
+#   want_compiler   sets CC
+#   want_cargo      sets CARGO, and in the environment what cargo needs to build and run for RUST_TARGET
+
+RUST_TARGET=x86_64-unknown-linux-gnu
+cross_root=/usr/x86_64-linux-gnu
+
+is_x86_64() {
+    [ "$(uname -m)" = x86_64 ]
+}
+
+has() {
+    command -v "$1" >/dev/null
+}
+
+# runs a command; what it says is shown only where it fails
+quietly() {
+    local said
+    said=$("$@" 2>&1) || { printf '%s\n' "$said" >&2; return 1; }
+}
+
+install_packages() {
+    if [ "$(id -u)" != 0 ] || ! has apt-get; then
+        echo "please install these Debian packages, or what has the same: $*" >&2
+        return 1
+    fi
+    quietly apt-get install -y --no-install-recommends "$@" 2>/dev/null && return
+    quietly apt-get update && quietly apt-get install -y --no-install-recommends "$@"
+}
+
+# The emulator takes loader and C library from one place: of two versions of one C library it would mix them.
+want_runner() {
+    RUN=()
+    is_x86_64 && return
+    has qemu-x86_64 || install_packages qemu-user || return
+    [ -e "$cross_root/lib/libc.so.6" ] || install_packages libc6-amd64-cross || return
+    RUN=(qemu-x86_64 -L "$cross_root" -E "LD_LIBRARY_PATH=$cross_root/lib")
+}
+
+want_compiler() {
+    if is_x86_64; then
+        CC=gcc
+        has gcc || install_packages gcc libc6-dev
+    else
+        CC=x86_64-linux-gnu-gcc
+        { has $CC && [ -e "$cross_root/include/stdio.h" ]; } || install_packages gcc-x86-64-linux-gnu libc6-dev-amd64-cross
+    fi
+}
+
+# whether a rustc is there and has the standard library of RUST_TARGET
+builds_for_target() {
+    has "$1" && [ -d "$("$1" --print target-libdir --target "$RUST_TARGET" 2>/dev/null)" ]
+}
+
+install_rust() {
+    if is_x86_64; then
+        install_packages rustc cargo
+    else
+        [ "$(id -u)" != 0 ] || ! has dpkg || quietly dpkg --add-architecture amd64
+        install_packages rustc cargo libstd-rust-dev:amd64
+    fi
+}
+
+# The rustc on the path, or Debian's where only that one has what is needed.
+want_cargo() {
+    want_compiler && want_runner || return
+    CARGO=cargo
+    if ! builds_for_target rustc; then
+        builds_for_target /usr/bin/rustc || install_rust || return
+        CARGO=/usr/bin/cargo
+        export RUSTC=/usr/bin/rustc RUSTDOC=/usr/bin/rustdoc
+    fi
+    is_x86_64 && return
+    export CARGO_TARGET_X86_64_UNKNOWN_LINUX_GNU_LINKER=$CC
+    export CARGO_TARGET_X86_64_UNKNOWN_LINUX_GNU_RUNNER="${RUN[*]}"
+}
