@@ -3,7 +3,7 @@ use Prim.Native.Nat.{ℕ, _-_, _≤_, _<_}
 use native.Mathlib.Omega.{arith}
 use mathlib.Core.Path.{_≡_, refl}
 use mathlib.Core.Bool.{Bool, true, false, _||_, not}
-use mathlib.Core.List.{List}
+use mathlib.Core.List.{List, [], _∷_}
 use borrow.Author.Tests.{ltb-false, leb-false, not-false}
 use lib.Dec.{leb, ltb}
 use lib.ListN.{length}
@@ -16,7 +16,7 @@ both-sound : (a b : Check) → (a andThen b) ≡ sound → (a ≡ sound) × (b �
 both-sound sound b e = (refl, e)
 both-sound (refuse number place) b e = absurd (never-sound e)
 
-test-fails : (b : Bool) (number : ℕ) → refuseWhere b number ≡ sound → b ≡ false
+pub test-fails : (b : Bool) (number : ℕ) → refuseWhere b number ≡ sound → b ≡ false
 test-fails false number e = refl
 test-fails true number e = absurd (never-sound e)
 
@@ -24,11 +24,16 @@ neither : (a b : Bool) → (a || b) ≡ false → (a ≡ false) × (b ≡ false)
 neither false b e = (refl, e)
 neither true b e = let z : _≡_ {A = ℕ} 0 1 = cc in absurd (omega arith)
 
-classes-length : (cs : List ℕ) → checkClasses cs ≡ sound → length cs ≤ 4096
+pub classes-length : (cs : List ℕ) → checkClasses cs ≡ sound → length cs ≤ 4096
 unfolding checkClasses checkLength
 classes-length cs e =
     ltb-false 4096 (length cs)
     (test-fails _ _ (both-sound (checkLength cs) (firstFault 0 cs) (both-sound (checkSome cs) _ e .1) .0))
+
+pub classes-some : (cs : List ℕ) → checkClasses cs ≡ sound → 0 < length cs
+unfolding checkClasses checkSome
+classes-some [] e = absurd (never-sound e)
+classes-some (c ∷ cs) e = omega arith
 
 pub record LevelsSound (cs : List ℕ) (request room : ℕ) : Type 0 where
   pub classes : checkClasses cs ≡ sound

@@ -7,7 +7,8 @@ use mathlib.Core.List.{List, [], _∷_, _++_, append-nil, append-assoc}
 use lib.ListN.{length, getD, take}
 use lib.Seq.{take-all}
 use Rattle.rules.proofs.Lists.{take-next}
-use Rattle.writing.specs.Text.{space, spaced, Puts}
+use Rattle.words.specs.Words.{space}
+use Rattle.writing.specs.Text.{spaced, Puts}
 use Rattle.writing.proofs.TextLaws.{puts-nothing, puts-then, puts-same}
 
 -- the texts of the values, one behind the other

@@ -12,7 +12,8 @@ use Rattle.rules.specs.Classes.{isRemoved}
 use Rattle.rules.specs.Explicit.{removedLevel}
 use Rattle.rules.specs.Refusals.{sound, refuse, isBadLevel, firstBadLevel}
 use Rattle.rules.proofs.Passes.{by-test}
-use Rattle.writing.specs.Text.{space, lineFeed, digit, numberText, levelText, spaced, baseName, levelsName, orderName, refusedName, baseRow, levelsRow, orderRow, refusedRow}
+use Rattle.words.specs.Words.{space, lineFeed}
+use Rattle.writing.specs.Text.{digit, numberText, levelText, spaced, baseName, levelsName, orderName, refusedName, baseRow, levelsRow, orderRow, refusedRow}
 use Rattle.writing.proofs.NumberLaws.{one-digit, more-digits}
 
 -- ---- a number below a power of ten has no more digits than the power says

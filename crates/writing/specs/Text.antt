@@ -6,14 +6,9 @@ use lib.Dec.{eqb, ltb}
 use lib.ListN.{length, set}
 use Rattle.rules.specs.Choice.{if_then_else_}
 use Rattle.rules.specs.Explicit.{removedLevel}
+use Rattle.words.specs.Words.{space, lineFeed}
 
--- ASCII: the space, the line feed, the dash, and a number below ten as a digit
-abbrev pub space : ℕ
-space = 32
-
-abbrev pub lineFeed : ℕ
-lineFeed = 10
-
+-- ASCII: the dash, and a number below ten as a digit
 abbrev pub dash : ℕ
 dash = 45
 

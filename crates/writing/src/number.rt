@@ -2,7 +2,8 @@
 use crate::text;
 ghost use mathlib.Core.List.{[], _∷_};
 ghost use Prim.Native.Nat.{_%_};
-ghost use Rattle.writing.specs.Text.{space, digit, numberText, levelText, spaced, Puts};
+ghost use Rattle.words.specs.Words.{space};
+ghost use Rattle.writing.specs.Text.{digit, numberText, levelText, spaced, Puts};
 
 fn put_last_digit(n: usize, out: &mut [u8], at: usize) -> usize
     ensures { λ r. ⌜ Puts (digit (n % 10) ∷ []) (now (out .entry)) at (now (out .exit)) r ⌝ }

@@ -4,7 +4,8 @@ use Prim.Native.Nat.{_-_}
 use mathlib.Core.Path.{sym}
 use mathlib.Core.List.{_∷_}
 use lib.ListN.{length}
-use Rattle.writing.specs.Text.{space, levelText}
+use Rattle.words.specs.Words.{space}
+use Rattle.writing.specs.Text.{levelText}
 use Rattle.writing.proofs.TextLaws.{puts-same, puts-long}
 use Rattle.writing.proofs.EachLaws.{spaced-each, EachPut, each-begun, each-next, each-done}
 use borrow.Author.Needs.{needs}

@@ -5,7 +5,8 @@ use native.Mathlib.Omega.{arith}
 use mathlib.Core.Path.{sym}
 use mathlib.Core.List.{_∷_}
 use lib.ListN.{length}
-use Rattle.writing.specs.Text.{space, numberText}
+use Rattle.words.specs.Words.{space}
+use Rattle.writing.specs.Text.{numberText}
 use Rattle.writing.proofs.TextLaws.{puts-same, puts-long}
 use Rattle.writing.proofs.EachLaws.{spaced-each, EachPut, each-begun, each-next, each-done}
 use borrow.Author.Needs.{needs}

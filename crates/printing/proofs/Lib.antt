@@ -1,0 +1,4 @@
+mod TextLaws
+pub mod LengthLaws
+mod PrintLaws
+pub mod Determined

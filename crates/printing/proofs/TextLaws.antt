@@ -1,0 +1,152 @@
+-- From what the jobs answer to what a paragraph's text is. Assumes nothing.
+use Prim.Native.Nat.{ℕ, _+_, _-_, _≤_, _<_}
+use native.Mathlib.Omega.{arith}
+use mathlib.Core.Path.{_≡_, refl, sym, ap, _∙_}
+use mathlib.Core.Bool.{true, false, _||_}
+use mathlib.Core.Logic.{_⊎_, inl, inr}
+use mathlib.Core.List.{List, [], _∷_, _++_}
+use borrow.Author.Tests.{le-ltb, lt-ltb, lt-leb}
+use lib.Dec.{leb, ltb}
+use lib.ListN.{length, take, drop, length-take, length-append}
+use lib.Seq.{take-all, take-append-seam}
+use Rattle.rules.specs.Paragraph.{baseOf}
+use Rattle.rules.specs.Resolve.{resolvedLevels}
+use Rattle.rules.specs.Line.{part, lineLevels, lineOrder}
+use Rattle.rules.specs.Refusals.{Check, sound, refuse, _andThen_, refuseWhere, isEmpty, checkSome, checkLength, checkClasses, checkRequest, checkLevelRoom, checkLine, checkOrderRoom, checksOfLevels, checksOfOrder, checksOfLine}
+use Rattle.rules.specs.Jobs.{accepted, refused, answered, over, levelsAnswer, resolveBuffer, lineAnswer, lineBuffer}
+use Rattle.rules.proofs.Lists.{le-or-lt}
+use Rattle.refusals.proofs.SoundLaws.{classes-length, classes-some, levels-sound}
+use Rattle.resolve.proofs.WholeLaws.{length-resolved}
+use Rattle.melvorash.specs.Answers.{basePage, orderPage, Leaves, OrdersLine}
+use Rattle.melvorash.specs.declared.answers.BaseAnswer.{BaseAnswer}
+use Rattle.melvorash.specs.declared.answers.OrderAnswer.{OrderAnswer}
+use Rattle.melvorash.proofs.JobLaws.{accepted-value, never-both, accepted-sound}
+use Rattle.melvorash.proofs.LevelTheorems.{order-takes-resolved}
+use Rattle.writing.specs.Text.{refusedRow}
+use Rattle.printing.specs.Printing.{toldRows, paragraphRows, paragraphText}
+
+-- ---- one class beyond the longest paragraph is enough to refuse it
+too-long : (cs : List ℕ) → 4096 < length cs → checkClasses cs ≡ refuse 3 0
+unfolding checkClasses checkSome checkLength
+too-long [] h = absurd (omega arith)
+too-long (c ∷ cs) h = rw (lt-ltb 4096 (length (c ∷ cs)) h)
+
+told-too-long : (request : ℕ) (cs : List ℕ) → 4096 < length cs → paragraphText request cs ≡ refusedRow 3 0
+unfolding paragraphText
+told-too-long request cs h = rw (too-long cs h)
+
+pub text-of-front : (request : ℕ) (cs : List ℕ) → paragraphText request (take 4097 cs) ≡ paragraphText request cs
+text-of-front request cs = go (le-or-lt (length cs) 4097)
+  where
+    go : (length cs ≤ 4097) ⊎ (4097 < length cs) → paragraphText request (take 4097 cs) ≡ paragraphText request cs
+    go (inl h) = ap (paragraphText request) (take-all 4097 cs h)
+    go (inr h) =
+        told-too-long request (take 4097 cs) (omega (arith, length-take 4097 cs))
+        ∙ sym (told-too-long request cs (omega arith))
+
+-- ---- with room for the longest paragraph there is no refusal for want of room
+then-sound : (check : Check) → (check andThen sound) ≡ check
+then-sound sound = refl
+then-sound (refuse number place) = refl
+
+enough-room : (check : Check) (cs : List ℕ) (request room : ℕ) → checkClasses cs ≡ check → 4096 ≤ room → checksOfLevels cs request room ≡ (check andThen checkRequest request)
+unfolding checksOfLevels checkLevelRoom
+enough-room sound cs request room e h =
+    rw (e, le-ltb room (length cs) (omega (arith, classes-length cs e))) (then-sound (checkRequest request))
+enough-room (refuse number place) cs request room e h = rw e
+
+pub checks-told : (cs : List ℕ) (request room : ℕ) → 4096 ≤ room → checksOfLevels cs request room ≡ (checkClasses cs andThen checkRequest request)
+checks-told cs request room h = enough-room (checkClasses cs) cs request room refl h
+
+module _ (cs : List ℕ) (request room : ℕ) (h : 4096 ≤ room) where
+  pub text-refused : (number place : ℕ) → checksOfLevels cs request room ≡ refuse number place → paragraphText request cs ≡ refusedRow number place
+  unfolding paragraphText
+  text-refused number place e = rw (sym (checks-told cs request room h) ∙ e)
+
+  pub text-sound : (base : ℕ) → baseOf request cs ≡ base → checksOfLevels cs request room ≡ sound → paragraphText request cs ≡ paragraphRows base (resolvedLevels base cs) (lineOrder base cs (resolvedLevels base cs) 0 (length cs))
+  unfolding paragraphText
+  text-sound base b e = rw (sym (checks-told cs request room h) ∙ e, b)
+
+-- ---- the whole paragraph is a line that Order takes
+pub line-taken : (cs levels : List ℕ) (base room : ℕ) → checkClasses cs ≡ sound → checksOfOrder cs levels base ≡ sound → 4096 ≤ room → checksOfLine cs levels base 0 (length cs) room ≡ sound
+unfolding checksOfLine checkLine checkOrderRoom
+line-taken cs levels base room c o h =
+    let few = classes-length cs c in
+    let whole : ltb (length cs) (length cs) ≡ false = le-ltb (length cs) (length cs) (omega arith) in
+    let begun : leb (length cs) 0 ≡ false = lt-leb (length cs) 0 (classes-some cs c) in
+    rw (o, begun, whole, le-ltb room (length cs - 0) (omega (arith, few)))
+
+-- ---- only the paragraph's own levels bear on its order
+front-levels : (xs rest : List ℕ) (n : ℕ) → length xs ≡ n → part 0 n (xs ++ rest) ≡ part 0 n xs
+unfolding part
+front-levels xs rest n e =
+    let whole : n - 0 ≡ length xs = omega arith in
+    rw whole (take-append-seam xs rest ∙ sym (take-all (length xs) xs (omega arith)))
+
+pub order-of-front : (base : ℕ) (cs xs rest : List ℕ) → length xs ≡ length cs → lineOrder base cs (xs ++ rest) 0 (length cs) ≡ lineOrder base cs xs 0 (length cs)
+unfolding lineOrder lineLevels
+order-of-front base cs xs rest e = rw (front-levels xs rest (length cs) e)
+
+-- ---- what Resolve's answer makes of a paragraph's text
+refused-check : (check : Check) (value number place : ℕ) → answered check value ≡ refused number place → check ≡ refuse number place
+refused-check sound value number place e = absurd (never-both e)
+refused-check (refuse m p) value number place e = cc
+
+module _ (cs : List ℕ) (request : ℕ) (levels : List ℕ) (r : BaseAnswer) (after : List ℕ) (room : 4096 ≤ length levels) (l : Leaves basePage (levelsAnswer cs request levels) (resolveBuffer cs request levels) r after) where
+  pub resolve-refused : (number place : ℕ) → basePage r ≡ refused number place → refusedRow number place ≡ paragraphText request cs
+  unfolding levelsAnswer
+  resolve-refused number place e =
+      sym (text-refused cs request (length levels) room number place (refused-check (checksOfLevels cs request (length levels)) (baseOf request cs) number place (sym (l .answer) ∙ e)))
+
+  module _ (base : ℕ) (a : basePage r ≡ accepted base) where
+    checked : (checksOfLevels cs request (length levels) ≡ sound) × (baseOf request cs ≡ base)
+    unfolding levelsAnswer
+    checked = accepted-sound (checksOfLevels cs request (length levels)) (baseOf request cs) base (sym (l .answer) ∙ a)
+
+    written : after ≡ over (resolvedLevels base cs) levels
+    unfolding resolveBuffer
+    written = l .buffer ∙ rw (checked .0, checked .1)
+
+    -- Order takes the whole paragraph as a line
+    pub resolve-taken : (places : ℕ) → 4096 ≤ places → checksOfLine cs after base 0 (length cs) places ≡ sound
+    resolve-taken places h =
+        line-taken cs after base places (levels-sound cs request (length levels) (checked .0) .classes) (order-takes-resolved cs request levels r after base l a) h
+
+    pub resolve-text : paragraphRows base (take (length cs) after) (lineOrder base cs after 0 (length cs)) ≡ paragraphText request cs
+    resolve-text =
+        let long = length-resolved base cs in
+        let rest = drop (length (resolvedLevels base cs)) levels in
+        let front : take (length cs) after ≡ resolvedLevels base cs = rw (written, sym long) (take-append-seam (resolvedLevels base cs) rest) in
+        let same : lineOrder base cs after 0 (length cs) ≡ lineOrder base cs (resolvedLevels base cs) 0 (length cs) = rw written (order-of-front base cs (resolvedLevels base cs) rest long) in
+        (λ j. paragraphRows base (front j) (same j)) ∙ sym (text-sound cs request (length levels) room base (checked .1) (checked .0))
+
+-- ---- the front of a buffer that was written from its first place on
+module _ (text before : List ℕ) {after : List ℕ} {count : ℕ} (n : count ≡ length text) (w : after ≡ over text before) where
+  pub front-within : count ≤ length after
+  front-within = omega (arith, n, ap length w ∙ length-append text (drop (length text) before))
+
+  pub front-is : take count after ≡ text
+  front-is = rw (n, w) (take-append-seam text (drop (length text) before))
+
+-- ---- what Order answers where its checks find nothing wrong
+module _ {cs levels : List ℕ} {base to : ℕ} {order : List ℕ} {r : OrderAnswer} {after : List ℕ} (s : checksOfLine cs levels base 0 to (length order) ≡ sound) (o : OrdersLine cs levels base 0 to order r after) where
+  answer : orderPage r ≡ accepted (length (lineOrder base cs levels 0 to))
+  unfolding lineAnswer
+  answer = o .leaves .answer ∙ rw s
+
+  left : after ≡ over (lineOrder base cs levels 0 to) order
+  unfolding lineBuffer
+  left = o .leaves .buffer ∙ rw s
+
+  pub order-not-refused : {number place : ℕ} → orderPage r ≡ refused number place → ⊥
+  order-not-refused e = never-both (sym answer ∙ e)
+
+  module _ {count : ℕ} (a : orderPage r ≡ accepted count) where
+    counted : count ≡ length (lineOrder base cs levels 0 to)
+    counted = accepted-value (sym a ∙ answer)
+
+    pub order-within : count ≤ length after
+    order-within = front-within (lineOrder base cs levels 0 to) order counted left
+
+    pub order-front : take count after ≡ lineOrder base cs levels 0 to
+    order-front = front-is (lineOrder base cs levels 0 to) order counted left

@@ -1,0 +1,57 @@
+-- The printing program: what it writes for a line, and for its whole input.
+use Prim.Native.Nat.{ℕ}
+use mathlib.Core.Path.{_≡_}
+use mathlib.Core.List.{List, [], _∷_, _++_}
+use lib.Dec.{ltb}
+use lib.ListN.{length, take}
+use Rattle.rules.specs.Choice.{if_then_else_}
+use Rattle.rules.specs.Paragraph.{baseOf}
+use Rattle.rules.specs.Resolve.{resolvedLevels}
+use Rattle.rules.specs.Line.{lineOrder}
+use Rattle.rules.specs.Refusals.{Check, sound, refuse, _andThen_, checkClasses, checkRequest}
+use Rattle.rules.specs.Jobs.{over}
+use Rattle.words.specs.Words.{linesOf, requestOf, classesOf}
+use Rattle.writing.specs.Text.{baseRow, levelsRow, orderRow, refusedRow}
+
+-- the rows where the checks find nothing wrong, else the refusal's row
+abbrev pub toldRows : Check → List ℕ → List ℕ
+toldRows sound rows = rows
+toldRows (refuse number place) rows = refusedRow number place
+
+-- the base used, the levels before the line's reset, the order
+unfoldable pub paragraphRows : ℕ → List ℕ → List ℕ → List ℕ
+paragraphRows base levels order = baseRow base ++ levelsRow levels ++ orderRow order
+
+-- one paragraph that is one line of display
+unfoldable pub paragraphText : ℕ → List ℕ → List ℕ
+paragraphText request cs =
+    let base = baseOf request cs in
+    let levels = resolvedLevels base cs in
+    toldRows (checkClasses cs andThen checkRequest request) (paragraphRows base levels (lineOrder base cs levels 0 (length cs)))
+
+-- the whole output for one line of input
+unfoldable pub lineText : List ℕ → List ℕ
+lineText line = paragraphText (requestOf line) (classesOf line)
+
+-- the whole output: at most 65,536 bytes are read, and the lines are handled in turn
+abbrev pub mostInput : ℕ
+mostInput = 65536
+
+unfoldable pub textOfAll : List (List ℕ) → List ℕ
+textOfAll [] = []
+textOfAll (line ∷ lines) = lineText line ++ textOfAll lines
+
+unfoldable pub outputOf : List ℕ → List ℕ
+outputOf input = textOfAll (linesOf (take mostInput input))
+
+-- a line's output has fewer bytes than this, and a shorter buffer is left alone
+abbrev pub mostOutput : ℕ
+mostOutput = 36864
+
+unfoldable pub printed : List ℕ → ℕ → List ℕ
+printed line room = if ltb room mostOutput then [] else lineText line
+
+-- what printing a line into a lent buffer promises: how many bytes, and every byte of the buffer
+pub record Prints (line before : List ℕ) (count : ℕ) (after : List ℕ) : Type 0 where
+  pub counted : count ≡ length (printed line (length before))
+  pub buffer : after ≡ over (printed line (length before)) before
