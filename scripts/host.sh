@@ -5,6 +5,7 @@
 #   want_runner     sets RUN, the words before a program that is to be run
 #   want_compiler   sets CC
 #   want_cargo      sets CARGO, and in the environment what cargo needs to build and run for RUST_TARGET
+#   in_cargo        after want_cargo: runs cargo on a package of this tree
 
 RUST_TARGET=x86_64-unknown-linux-gnu
 cross_root=/usr/x86_64-linux-gnu
@@ -77,4 +78,11 @@ want_cargo() {
     is_x86_64 && return
     export CARGO_TARGET_X86_64_UNKNOWN_LINUX_GNU_LINKER=$CC
     export CARGO_TARGET_X86_64_UNKNOWN_LINUX_GNU_RUNNER="${RUN[*]}"
+}
+
+# in_cargo FOLDER COMMAND WORDS...: nothing is fetched, and CARGO_TARGET_DIR is the caller's to choose
+in_cargo() {
+    local folder=$1 command=$2
+    shift 2
+    "$CARGO" "$command" --manifest-path "$folder/Cargo.toml" --offline --locked --target "$RUST_TARGET" "$@"
 }
