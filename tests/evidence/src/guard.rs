@@ -1,0 +1,110 @@
+//! Memory at the boundary: every buffer is lent so that it ends, and once more so that it begins, at memory
+//! that may not be touched, and what is lent to be read may not be written. Answers and buffers are compared
+//! with the second program's as well.
+use crate::call::{Input, Job, JOBS};
+use crate::classes::LONGEST;
+use crate::compare::{compare, outcome, UNTOUCHED, UNTOUCHED_PLACE};
+use crate::generator::Generator;
+use crate::memory::{Guarded, Side};
+use crate::program::{LIBRARY, SECOND};
+use crate::tally::Tally;
+use crate::{shapes, spoil, trap};
+
+/// Every length up to this one, and the longest two.
+const SHORT: usize = 100;
+
+/// The five buffers that a call may be lent.
+struct Buffers {
+    classes: Guarded,
+    levels: Guarded,
+    ends: Guarded,
+    filled_levels: Guarded,
+    filled_order: Guarded,
+}
+
+pub fn run() -> bool {
+    trap::set();
+    let mut tally = Tally::default();
+    let mut buffers = Buffers {
+        classes: Guarded::new(),
+        levels: Guarded::new(),
+        ends: Guarded::new(),
+        filled_levels: Guarded::new(),
+        filled_order: Guarded::new(),
+    };
+    try_input(&mut tally, &mut buffers, &Input::default());
+    for length in (1..=SHORT).chain([LONGEST - 1, LONGEST]) {
+        try_length(&mut tally, &mut buffers, length);
+    }
+    println!(
+        "guard: {} calls at memory that may not be touched, {} differences; refusals 1 to 10 met: {}",
+        tally.calls,
+        tally.differences,
+        tally.refusals_met()
+    );
+    tally.differences == 0
+}
+
+/// Good input of a length, with each request, and bad input for each refusal.
+fn try_length(tally: &mut Tally, buffers: &mut Buffers, length: usize) {
+    let random = &mut Generator::new(length as u64, 0);
+    let mut sound = Input::default();
+    for request in 0..=2 {
+        sound = resolved(tally, random, length, request);
+        try_input(tally, buffers, &sound);
+    }
+    for number in 1..=10 {
+        let mut bad = sound.clone();
+        spoil::spoil(random, &mut bad, &[number]);
+        try_input(tally, buffers, &bad);
+    }
+}
+
+/// Sound input with no place more than is needed, except in the order of a part of the paragraph.
+fn resolved(tally: &mut Tally, random: &mut Generator, length: usize, request: u8) -> Input<'static> {
+    let (from, to) = shapes::line(random, length);
+    let mut input = Input {
+        classes: shapes::paragraph_of(random, length).into(),
+        request,
+        level_room: length,
+        from,
+        to,
+        ends: shapes::ends(random, length).into(),
+        order_room: length,
+        ..Input::default()
+    };
+    let resolved = compare(tally, "guard: ", Job::Resolve, &input);
+    input.base = resolved.answer.map_or(0, |base| base as u8);
+    input.levels = resolved.levels[..length].to_vec().into();
+    input
+}
+
+fn try_input(tally: &mut Tally, buffers: &mut Buffers, input: &Input) {
+    for job in JOBS {
+        for side in [Side::Begin, Side::End] {
+            try_call(tally, buffers, job, side, input);
+        }
+    }
+}
+
+fn try_call(tally: &mut Tally, buffers: &mut Buffers, job: Job, side: Side, input: &Input) {
+    let name = format!("{job:?}, buffers at their {side:?}\n{input}");
+    let (level_room, order_room) = input.room(job);
+    let levels = buffers.filled_levels.lend_to_fill(side, &vec![UNTOUCHED; level_room]);
+    let order = buffers.filled_order.lend_to_fill(side, &vec![UNTOUCHED_PLACE; order_room]);
+    let guarded = Input {
+        classes: buffers.classes.lend_to_read(side, &input.classes).into(),
+        levels: buffers.levels.lend_to_read(side, &input.levels).into(),
+        ends: buffers.ends.lend_to_read(side, &input.ends).into(),
+        ..input.clone()
+    };
+    let answer = trap::named(&name, || guarded.call(&LIBRARY, job, levels, order));
+    tally.count_answer(answer);
+    let second = outcome(&SECOND, job, input);
+    if answer != second.answer
+        || *levels != second.levels[..level_room]
+        || *order != second.order[..order_room]
+    {
+        tally.differ(format!("{name}\n  library {answer:?} {levels:?} {order:?}\n  second  {second:?}"));
+    }
+}

@@ -1,0 +1,55 @@
+//! Evidence from outside that the library's definitions are right: what the library answers beside the
+//! consortium's BidiTest file, beside a second program written apart from it, and beside the law on pairs.
+//! Each command prints what it compared, and ends with status 1 where anything differs.
+mod biditest;
+mod call;
+mod classes;
+mod compare;
+mod exhaustive;
+mod generator;
+mod guard;
+mod law;
+mod library;
+mod memory;
+mod program;
+mod random;
+mod shapes;
+mod spoil;
+mod tally;
+mod trap;
+
+use std::process::ExitCode;
+
+const USAGE: &str = "evidence biditest FILE
+evidence exhaustive
+evidence random --seed N --count N [--progress]
+evidence guard";
+
+fn main() -> ExitCode {
+    let words: Vec<String> = std::env::args().skip(1).collect();
+    match run(&words.iter().map(String::as_str).collect::<Vec<&str>>()) {
+        Ok(true) => ExitCode::SUCCESS,
+        Ok(false) => ExitCode::FAILURE,
+        Err(message) => {
+            eprintln!("{message}");
+            ExitCode::FAILURE
+        }
+    }
+}
+
+/// Whether nothing differed, or why there is no answer.
+fn run(words: &[&str]) -> Result<bool, String> {
+    match *words {
+        ["biditest", file] => biditest::run(file),
+        ["exhaustive"] => Ok(exhaustive::run()),
+        ["random", "--seed", seed, "--count", count] => run_random(seed, count, false),
+        ["random", "--seed", seed, "--count", count, "--progress"] => run_random(seed, count, true),
+        ["guard"] => Ok(guard::run()),
+        _ => Err(USAGE.to_string()),
+    }
+}
+
+fn run_random(seed: &str, count: &str, progress: bool) -> Result<bool, String> {
+    let number = |word: &str| word.parse().map_err(|_| format!("{word} is no number"));
+    Ok(random::run(&random::Options { seed: number(seed)?, count: number(count)?, progress }))
+}

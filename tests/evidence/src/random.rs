@@ -1,0 +1,141 @@
+//! Random paragraphs, lines, levels and bad input: both programs on each, and the law on pairs on each order.
+use crate::call::{Input, Job, JOBS};
+use crate::classes::is_removed;
+use crate::compare::{compare, Outcome};
+use crate::generator::Generator;
+use crate::tally::Tally;
+use crate::{law, shapes, spoil};
+use std::time::{Duration, Instant};
+
+const BETWEEN_PROGRESS_LINES: Duration = Duration::from_secs(30);
+
+pub struct Options {
+    pub seed: u64,
+    pub count: u64,
+    pub progress: bool,
+}
+
+pub fn run(options: &Options) -> bool {
+    let mut tally = Tally::default();
+    let mut shown = Instant::now();
+    for case in 1..=options.count {
+        Case::new(&mut tally, options.seed, case).run();
+        if options.progress && shown.elapsed() >= BETWEEN_PROGRESS_LINES {
+            shown = Instant::now();
+            eprintln!("{case} of {} paragraphs, {} differences", options.count, tally.differences);
+        }
+    }
+    println!(
+        "random: seed {}: {} paragraphs, {} calls of each program, {} differences; refusals 1 to 10 met: {}",
+        options.seed,
+        options.count,
+        tally.calls,
+        tally.differences,
+        tally.refusals_met()
+    );
+    tally.differences == 0
+}
+
+struct Case<'a> {
+    tally: &'a mut Tally,
+    name: String,
+    random: Generator,
+}
+
+impl Case<'_> {
+    fn new(tally: &mut Tally, seed: u64, case: u64) -> Case {
+        Case { tally, name: format!("seed {seed}, case {case}: "), random: Generator::new(seed, case) }
+    }
+
+    fn run(&mut self) {
+        let classes = shapes::paragraph(&mut self.random);
+        self.cut_from_text(&classes);
+        let mut input = self.resolved(classes);
+        for job in [Job::CutPart, Job::Base, Job::Explicit] {
+            self.compare(job, &input);
+        }
+        self.orders(&input);
+        input.levels = shapes::levels(&mut self.random, &input.classes).into();
+        input.base = self.random.byte_between(0, 1);
+        self.orders(&input);
+        self.refusals(input);
+    }
+
+    fn compare(&mut self, job: Job, input: &Input) -> Outcome {
+        compare(self.tally, &self.name, job, input)
+    }
+
+    /// The paragraph with anything whatever after it.
+    fn cut_from_text(&mut self, classes: &[u8]) {
+        let mut text = classes.to_vec();
+        let more = self.random.between(0, 3);
+        text.extend((0..more).map(|_| self.random.byte_between(0, 255)));
+        let input = Input { classes: text.into(), ..Input::default() };
+        self.compare(Job::Cut, &input);
+        self.compare(Job::CutPart, &input);
+    }
+
+    /// A sound input for every job, with the levels and the base that the library resolves.
+    fn resolved(&mut self, classes: Vec<u8>) -> Input<'static> {
+        let random = &mut self.random;
+        let length = classes.len();
+        let (from, to) = shapes::line(random, length);
+        let mut input = Input {
+            classes: classes.into(),
+            request: random.byte_between(0, 2),
+            level_room: length + random.between(0, 2),
+            from,
+            to,
+            ends: shapes::ends(random, length).into(),
+            order_room: length + random.between(0, 2),
+            ..Input::default()
+        };
+        let resolved = self.compare(Job::Resolve, &input);
+        input.base = resolved.answer.map_or(0, |base| base as u8);
+        input.levels = resolved.levels.into();
+        input
+    }
+
+    /// Both forms of Order, and the law on what the library wrote.
+    fn orders(&mut self, input: &Input) {
+        let line = self.compare(Job::OrderLine, input);
+        let lines = self.compare(Job::OrderLines, input);
+        let whole_lines: Vec<usize> = input.ends.iter().map(|&end| usize::from(end)).collect();
+        if !self.law_holds(input, input.from, &[input.to], &line)
+            || !self.law_holds(input, 0, &whole_lines, &lines)
+        {
+            self.tally.differ(format!("{}the law on pairs\n{input}\n  {line:?}\n  {lines:?}", self.name));
+        }
+    }
+
+    /// The law on each of the lines that begin at `from` and end at `ends`, whose orders follow each other.
+    fn law_holds(&mut self, input: &Input, mut from: usize, ends: &[usize], outcome: &Outcome) -> bool {
+        let mut rest = match outcome.answer {
+            Ok(count) if count <= outcome.order.len() => &outcome.order[..count],
+            _ => return false,
+        };
+        for &to in ends {
+            let levels = second::line_levels(&input.classes, &input.levels, input.base, from, to);
+            let kept = input.classes[from..to].iter().filter(|&&class| !is_removed(class));
+            let count = kept.count().min(rest.len());
+            let (order, later) = rest.split_at(count);
+            if !law::holds(&mut self.random, &levels, from, order) {
+                return false;
+            }
+            (from, rest) = (to, later);
+        }
+        rest.is_empty()
+    }
+
+    /// Every job on the input with one or two faults in it.
+    fn refusals(&mut self, mut input: Input) {
+        let mut numbers = [self.random.byte_between(1, 10), self.random.byte_between(1, 10)];
+        if self.random.one_in(2) {
+            numbers[1] = numbers[0];
+        }
+        spoil::spoil(&mut self.random, &mut input, &numbers);
+        for job in JOBS {
+            self.compare(job, &input);
+        }
+    }
+}

@@ -1,0 +1,38 @@
+//! What was compared, and what differed.
+use second::Refused;
+use std::fmt::Display;
+
+/// How many differences are printed; all are counted.
+const MOST_SHOWN: u64 = 20;
+
+#[derive(Default)]
+pub struct Tally {
+    /// Calls that were made of both programs.
+    pub calls: u64,
+    pub differences: u64,
+    /// How often the library gave each refusal, by its number.
+    refusals: [u64; 11],
+}
+
+impl Tally {
+    pub fn count_answer(&mut self, library: Result<usize, Refused>) {
+        self.calls += 1;
+        if let Err((number, _)) = library {
+            if let Some(count) = self.refusals.get_mut(usize::from(number)) {
+                *count += 1;
+            }
+        }
+    }
+
+    pub fn differ(&mut self, what: impl Display) {
+        self.differences += 1;
+        if self.differences <= MOST_SHOWN {
+            println!("different: {what}");
+        }
+    }
+
+    /// The counts of the refusals 1 to 10.
+    pub fn refusals_met(&self) -> String {
+        self.refusals[1..].iter().map(u64::to_string).collect::<Vec<String>>().join(" ")
+    }
+}

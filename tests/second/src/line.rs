@@ -1,0 +1,74 @@
+//! One line: L1 and L2.
+
+use crate::classes::{is_removed, B, S, WS};
+
+/// A kept position of the line on its way to its place on the display.
+pub struct Cell {
+    /// Where it stands in the paragraph.
+    pub place: usize,
+    /// Its level after L1.
+    pub level: u8,
+}
+
+/// L1: on the line `from..to`, by original classes, go back to the base level:
+/// S, B, every stretch of WS before an S or a B, and every stretch of WS at the
+/// end of the line. Removed positions are passed over. Answers the levels of
+/// the line.
+pub fn l1(classes: &[u8], levels: &[u8], base: u8, from: usize, to: usize) -> Vec<u8> {
+    let mut reset = levels[from..to].to_vec();
+    for place in from..to {
+        let class = classes[place];
+        let separator = class == S || class == B;
+        let trailing = class == WS && trails(classes, place, to);
+        if separator || trailing {
+            reset[place - from] = base;
+        }
+    }
+    reset
+}
+
+/// Whether, going on from a WS over further WS and over removed positions, an
+/// S, a B or the end of the line is what comes next.
+fn trails(classes: &[u8], place: usize, to: usize) -> bool {
+    let mut next = place + 1;
+    while next < to && (classes[next] == WS || is_removed(classes[next])) {
+        next += 1;
+    }
+    next == to || classes[next] == S || classes[next] == B
+}
+
+/// L2: from the highest level on the line down to the lowest odd level on it,
+/// one pass for each number whether found on the line or not, reverse every
+/// longest stretch at that level or above. Without an odd level, no pass.
+pub fn l2(cells: &mut [Cell]) {
+    let highest = cells.iter().map(|cell| cell.level).max();
+    let lowest_odd = cells
+        .iter()
+        .map(|cell| cell.level)
+        .filter(|level| level % 2 == 1)
+        .min();
+    if let (Some(highest), Some(lowest_odd)) = (highest, lowest_odd) {
+        let mut level = highest;
+        while level >= lowest_odd {
+            reverse_from_level(cells, level);
+            level -= 1;
+        }
+    }
+}
+
+/// One pass of L2.
+fn reverse_from_level(cells: &mut [Cell], level: u8) {
+    let mut start = 0;
+    while start < cells.len() {
+        if cells[start].level < level {
+            start += 1;
+            continue;
+        }
+        let mut end = start;
+        while end < cells.len() && cells[end].level >= level {
+            end += 1;
+        }
+        cells[start..end].reverse();
+        start = end;
+    }
+}
