@@ -10,9 +10,9 @@ use second::Refused;
 /// The bits of a row's set, the request that each stands for, and its name.
 const DIRECTIONS: [(u8, u8, &str); 3] = [(1, 2, "by text"), (2, 0, "left to right"), (4, 1, "right to left")];
 
-/// What the file wants of the rows that follow.
-#[derive(Default)]
-struct Wanted {
+/// The levels after L1, and the order of the whole row as one line.
+#[derive(Debug, Default, PartialEq)]
+struct Displayed {
     levels: Vec<u8>,
     order: Vec<u16>,
 }
@@ -30,7 +30,7 @@ struct Counts {
 
 pub fn run(path: &str) -> Result<bool, String> {
     let text = std::fs::read_to_string(path).map_err(|error| format!("{path}: {error}"))?;
-    let mut wanted = Wanted::default();
+    let mut wanted = Displayed::default();
     let mut counts = Counts::default();
     for (index, line) in text.lines().enumerate() {
         take_line(&mut wanted, &mut counts, line, index + 1)
@@ -52,7 +52,7 @@ pub fn run(path: &str) -> Result<bool, String> {
 }
 
 /// Nothing where the line is not of the file's format.
-fn take_line(wanted: &mut Wanted, counts: &mut Counts, line: &str, number: usize) -> Option<()> {
+fn take_line(wanted: &mut Displayed, counts: &mut Counts, line: &str, number: usize) -> Option<()> {
     if let Some(levels) = line.strip_prefix("@Levels:") {
         wanted.levels = levels.split_whitespace().map(level).collect::<Option<_>>()?;
     } else if let Some(order) = line.strip_prefix("@Reorder:") {
@@ -61,9 +61,9 @@ fn take_line(wanted: &mut Wanted, counts: &mut Counts, line: &str, number: usize
         counts.stated_rows = Some(total.trim().parse().ok()?);
     } else if !line.is_empty() && !line.starts_with('#') {
         let (names, bits) = line.split_once(';')?;
-        let classes: Vec<u8> = names.split_whitespace().map(classes::number).collect::<Option<_>>()?;
+        let row: Vec<u8> = names.split_whitespace().map(classes::number).collect::<Option<_>>()?;
         let bits = u8::from_str_radix(bits.trim(), 16).ok().filter(|bits| (1..=7).contains(bits))?;
-        try_row(wanted, counts, &classes, bits, number);
+        try_row(wanted, counts, &row, bits, number);
     }
     Some(())
 }
@@ -75,32 +75,29 @@ fn level(word: &str) -> Option<u8> {
     }
 }
 
-fn try_row(wanted: &Wanted, counts: &mut Counts, classes: &[u8], bits: u8, number: usize) {
+fn try_row(wanted: &Displayed, counts: &mut Counts, row: &[u8], bits: u8, number: usize) {
     counts.rows += 1;
-    counts.separators_inside += usize::from(classes.iter().rev().skip(1).any(|&class| class == classes::B));
+    counts.separators_inside += usize::from(row.iter().rev().skip(1).any(|&class| class == classes::B));
     for (_, request, direction) in DIRECTIONS.iter().filter(|(bit, ..)| bits & bit != 0) {
         counts.cases += 1;
         let programs = [("library", &LIBRARY, &mut counts.library), ("second", &SECOND, &mut counts.second)];
-        for (name, program, tally) in programs {
-            let found = levels_and_order(program, classes, *request);
-            if found.as_ref() != Ok(&(wanted.levels.clone(), wanted.order.clone())) {
-                let row = classes::named(classes);
-                let Wanted { levels, order } = wanted;
-                tally.differ(format!(
-                    "line {number}, {direction}: {row}\n  wanted {levels:?} {order:?}\n  {name} {found:?}"
-                ));
+        for (program_name, program, tally) in programs {
+            let found = displayed(program, row, *request);
+            if found.as_ref() != Ok(wanted) {
+                let names = classes::named(row);
+                let place = format!("{program_name}, line {number}, {direction}");
+                tally.differ(|| format!("{place}: {names}\n  wanted {wanted:?}\n  found {found:?}"));
             }
         }
     }
 }
 
-/// The levels after L1, and the order of the whole row as one line.
-fn levels_and_order(program: &Program, classes: &[u8], request: u8) -> Result<(Vec<u8>, Vec<u16>), Refused> {
+fn displayed(program: &Program, classes: &[u8], request: u8) -> Result<Displayed, Refused> {
     let length = classes.len();
     let mut levels = vec![0; length];
     let mut order = vec![0; length];
     let base = (program.resolve_levels)(classes, request, &mut levels)?;
     let count = (program.order_line)(classes, &levels, base, 0, length, &mut order)?;
     order.truncate(count);
-    Ok((second::line_levels(classes, &levels, base, 0, length), order))
+    Ok(Displayed { levels: second::line_levels(classes, &levels, base, 0, length), order })
 }

@@ -58,7 +58,7 @@ impl Input<'_> {
         let Input { classes, request, base, levels: lent, from, to, ends, .. } = self;
         match job {
             Job::Cut => (program.cut)(classes),
-            Job::CutPart => place_of_part(classes, (program.cut_part)(classes)),
+            Job::CutPart => length_of_part(classes, (program.cut_part)(classes)),
             Job::Base => (program.base)(classes).map(usize::from),
             Job::Explicit => (program.explicit_levels)(classes, *request, levels).map(usize::from),
             Job::Resolve => (program.resolve_levels)(classes, *request, levels).map(usize::from),
@@ -69,7 +69,7 @@ impl Input<'_> {
 }
 
 /// The part's length. One that does not begin where the classes begin is given as a refusal that is none.
-fn place_of_part(classes: &[u8], part: &[u8]) -> Result<usize, Refused> {
+fn length_of_part(classes: &[u8], part: &[u8]) -> Result<usize, Refused> {
     if part.as_ptr() == classes.as_ptr() {
         Ok(part.len())
     } else {

@@ -32,7 +32,7 @@ pub fn compare(tally: &mut Tally, name: &str, job: Job, input: &Input) -> Outcom
     let second = outcome(&SECOND, job, input);
     tally.count_answer(library.answer);
     if library != second {
-        tally.differ(format!("{name}{job:?}\n{input}\n  library {library:?}\n  second  {second:?}"));
+        tally.differ(|| format!("{name}{job:?}\n{input}\n  library {library:?}\n  second  {second:?}"));
     }
     library
 }

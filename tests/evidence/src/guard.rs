@@ -3,7 +3,7 @@
 //! with the second program's as well.
 use crate::call::{Input, Job, JOBS};
 use crate::classes::LONGEST;
-use crate::compare::{compare, outcome, UNTOUCHED, UNTOUCHED_PLACE};
+use crate::compare::{outcome, UNTOUCHED, UNTOUCHED_PLACE};
 use crate::generator::Generator;
 use crate::memory::{Guarded, Side};
 use crate::program::{LIBRARY, SECOND};
@@ -50,7 +50,7 @@ fn try_length(tally: &mut Tally, buffers: &mut Buffers, length: usize) {
     let random = &mut Generator::new(length as u64, 0);
     let mut sound = Input::default();
     for request in 0..=2 {
-        sound = resolved(tally, random, length, request);
+        sound = resolved(random, length, request);
         try_input(tally, buffers, &sound);
     }
     for number in 1..=10 {
@@ -60,8 +60,8 @@ fn try_length(tally: &mut Tally, buffers: &mut Buffers, length: usize) {
     }
 }
 
-/// Sound input with no place more than is needed, except in the order of a part of the paragraph.
-fn resolved(tally: &mut Tally, random: &mut Generator, length: usize, request: u8) -> Input<'static> {
+/// Sound input with no place more than all jobs need.
+fn resolved(random: &mut Generator, length: usize, request: u8) -> Input<'static> {
     let (from, to) = shapes::line(random, length);
     let mut input = Input {
         classes: shapes::paragraph_of(random, length).into(),
@@ -73,7 +73,7 @@ fn resolved(tally: &mut Tally, random: &mut Generator, length: usize, request: u
         order_room: length,
         ..Input::default()
     };
-    let resolved = compare(tally, "guard: ", Job::Resolve, &input);
+    let resolved = outcome(&LIBRARY, Job::Resolve, &input);
     input.base = resolved.answer.map_or(0, |base| base as u8);
     input.levels = resolved.levels[..length].to_vec().into();
     input
@@ -88,7 +88,7 @@ fn try_input(tally: &mut Tally, buffers: &mut Buffers, input: &Input) {
 }
 
 fn try_call(tally: &mut Tally, buffers: &mut Buffers, job: Job, side: Side, input: &Input) {
-    let name = format!("{job:?}, buffers at their {side:?}\n{input}");
+    let name = format!("{job:?}, the {side:?} of each buffer at the edge\n{input}");
     let (level_room, order_room) = input.room(job);
     let levels = buffers.filled_levels.lend_to_fill(side, &vec![UNTOUCHED; level_room]);
     let order = buffers.filled_order.lend_to_fill(side, &vec![UNTOUCHED_PLACE; order_room]);
@@ -105,6 +105,6 @@ fn try_call(tally: &mut Tally, buffers: &mut Buffers, job: Job, side: Side, inpu
         || *levels != second.levels[..level_room]
         || *order != second.order[..order_room]
     {
-        tally.differ(format!("{name}\n  library {answer:?} {levels:?} {order:?}\n  second  {second:?}"));
+        tally.differ(|| format!("{name}\n  library {answer:?} {levels:?} {order:?}\n  second  {second:?}"));
     }
 }

@@ -104,7 +104,7 @@ impl Case<'_> {
         if !self.law_holds(input, input.from, &[input.to], &line)
             || !self.law_holds(input, 0, &whole_lines, &lines)
         {
-            self.tally.differ(format!("{}the law on pairs\n{input}\n  {line:?}\n  {lines:?}", self.name));
+            self.tally.differ(|| format!("{}the law on pairs\n{input}\n  {line:?}\n  {lines:?}", self.name));
         }
     }
 

@@ -1,6 +1,5 @@
 //! What was compared, and what differed.
 use second::Refused;
-use std::fmt::Display;
 
 /// How many differences are printed; all are counted.
 const MOST_SHOWN: u64 = 20;
@@ -24,10 +23,10 @@ impl Tally {
         }
     }
 
-    pub fn differ(&mut self, what: impl Display) {
+    pub fn differ(&mut self, what: impl FnOnce() -> String) {
         self.differences += 1;
         if self.differences <= MOST_SHOWN {
-            println!("different: {what}");
+            println!("different: {}", what());
         }
     }
 

@@ -1,9 +1,7 @@
 //! The refusals. Each function answers one or more of the numbers of document
 //! 01; the callers put them in the order 1, 3, (2 or 4), 5, 6, 7, (8 or 10), 9.
 
-use crate::classes::{
-    is_removed, is_unknown, B, HIGHEST_RESOLVED, MOST_POSITIONS, REMOVED_LEVEL,
-};
+use crate::classes::{is_removed, is_unknown, B, HIGHEST_RESOLVED, MOST_POSITIONS, REMOVED_LEVEL};
 use crate::Refused;
 
 /// 1, then 3, then the first position from the left that is of no class (2)

@@ -30,9 +30,9 @@ pub fn n1(types: &mut [u8], sor: u8, eor: u8) {
 
 /// N2: a neutral that N1 left takes the direction of the run's level.
 pub fn n2(types: &mut [u8], level: u8) {
-    for i in 0..types.len() {
-        if is_neutral(types[i]) {
-            types[i] = direction(level);
+    for class in types {
+        if is_neutral(*class) {
+            *class = direction(level);
         }
     }
 }

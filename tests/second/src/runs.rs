@@ -26,8 +26,16 @@ pub fn x10(kept: &[Position], base: u8) -> Vec<Run> {
         while end < kept.len() && kept[end].level == level {
             end += 1;
         }
-        let before = if start == 0 { base } else { kept[start - 1].level };
-        let after = if end == kept.len() { base } else { kept[end].level };
+        let before = if start == 0 {
+            base
+        } else {
+            kept[start - 1].level
+        };
+        let after = if end == kept.len() {
+            base
+        } else {
+            kept[end].level
+        };
         runs.push(Run {
             start,
             end,

@@ -24,9 +24,9 @@ pub fn w2(types: &mut [u8], sor: u8) {
 
 /// W3: every AL becomes R.
 pub fn w3(types: &mut [u8]) {
-    for i in 0..types.len() {
-        if types[i] == AL {
-            types[i] = R;
+    for class in types {
+        if *class == AL {
+            *class = R;
         }
     }
 }
@@ -78,9 +78,9 @@ pub fn w5(types: &mut [u8]) {
 
 /// W6: whatever is still ES, ET or CS becomes ON.
 pub fn w6(types: &mut [u8]) {
-    for i in 0..types.len() {
-        if types[i] == ES || types[i] == ET || types[i] == CS {
-            types[i] = ON;
+    for class in types {
+        if *class == ES || *class == ET || *class == CS {
+            *class = ON;
         }
     }
 }

@@ -28,7 +28,11 @@ fn row(names: &str, request: u8, wanted_levels: &str, wanted_order: &str) {
 fn base_used(names: &str, request: u8) -> u8 {
     let text = classes(names);
     let used = resolve(&text, request).0;
-    assert_eq!(explicit(&text, request).0, used, "the two jobs' bases of {names}");
+    assert_eq!(
+        explicit(&text, request).0,
+        used,
+        "the two jobs' bases of {names}"
+    );
     used
 }
 
@@ -40,12 +44,20 @@ fn ladder(count: usize) -> Vec<u8> {
 
 /// The levels, after X9, of the kept positions alone.
 fn explicit_kept(text: &[u8], request: u8) -> Vec<u8> {
-    explicit(text, request).1.into_iter().filter(|&level| level != 255).collect()
+    explicit(text, request)
+        .1
+        .into_iter()
+        .filter(|&level| level != 255)
+        .collect()
 }
 
 /// The levels, after I2, of the kept positions alone.
 fn resolved_kept(text: &[u8], request: u8) -> Vec<u8> {
-    resolve(text, request).1.into_iter().filter(|&level| level != 255).collect()
+    resolve(text, request)
+        .1
+        .into_iter()
+        .filter(|&level| level != 255)
+        .collect()
 }
 
 // The table.
@@ -107,7 +119,10 @@ fn table_en_bn_cs_en() {
 fn table_r_s_r() {
     row("R S R", 0, "1 1 1", "0 1 2");
     let text = classes("R S R");
-    assert_eq!(line_levels(&text, &levels("1 1 1"), 0, 0, 3), levels("1 0 1"));
+    assert_eq!(
+        line_levels(&text, &levels("1 1 1"), 0, 0, 3),
+        levels("1 0 1")
+    );
 }
 
 #[test]
@@ -300,8 +315,14 @@ fn base_by_request_does_not_look_at_the_text() {
 #[test]
 fn explicit_levels_of_one_paragraph() {
     let text = classes("R LRE L PDF AL RLO BN EN PDF RLE L B");
-    assert_eq!(explicit(&text, BY_TEXT), (1, levels("1 - 2 - 1 - - 3 - - 3 1")));
-    assert_eq!(resolve(&text, BY_TEXT), (1, levels("1 - 2 - 1 - - 3 - - 4 1")));
+    assert_eq!(
+        explicit(&text, BY_TEXT),
+        (1, levels("1 - 2 - 1 - - 3 - - 3 1"))
+    );
+    assert_eq!(
+        resolve(&text, BY_TEXT),
+        (1, levels("1 - 2 - 1 - - 3 - - 4 1"))
+    );
 }
 
 #[test]
@@ -309,7 +330,10 @@ fn b_stays_b_at_the_base_under_an_override() {
     let text = classes("LRO R WS B");
     assert_eq!(explicit(&text, 1), (1, levels("- 2 2 1")));
     assert_eq!(resolve(&text, 1), (1, levels("- 2 2 1")));
-    assert_eq!(line_levels(&text, &levels("- 2 2 1"), 1, 0, 4), levels("- 2 1 1"));
+    assert_eq!(
+        line_levels(&text, &levels("- 2 2 1"), 1, 0, 4),
+        levels("- 2 1 1")
+    );
 }
 
 #[test]
@@ -355,7 +379,10 @@ fn removed_positions_do_not_interrupt_blanks() {
 fn only_blanks_go_back() {
     let text = classes("RLO ON WS ON NSM EN");
     let (used, found) = resolve(&text, 0);
-    assert_eq!(line_levels(&text, &found, used, 0, 6), levels("- 1 1 1 1 1"));
+    assert_eq!(
+        line_levels(&text, &found, used, 0, 6),
+        levels("- 1 1 1 1 1")
+    );
 }
 
 #[test]
@@ -377,6 +404,19 @@ fn what_follows_the_line_does_not_bear_on_it() {
     assert_eq!(line(&text, &lent, 0, 3, 6), places("5 4 3"));
     assert_eq!(line(&text, &lent, 0, 3, 5), places("3 4"));
     assert_eq!(lines(&text, &lent, 0, &[3, 6]), places("0 1 2 5 4 3"));
+    let parted = classes("R WS WS R");
+    assert_eq!(
+        line_levels(&parted, &levels("1 1 1 1"), 0, 0, 2),
+        levels("1 0")
+    );
+    assert_eq!(
+        line_levels(&parted, &levels("1 1 1 1"), 0, 2, 4),
+        levels("1 1")
+    );
+    assert_eq!(
+        lines(&parted, &levels("1 1 1 1"), 0, &[2, 4]),
+        places("0 1 3 2")
+    );
 }
 
 #[test]

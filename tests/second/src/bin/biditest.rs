@@ -69,7 +69,10 @@ fn fail(message: &str) -> ExitCode {
 fn conclude(progress: &Progress) -> ExitCode {
     println!("rows {}", progress.rows);
     println!("cases {}", progress.cases);
-    println!("rows with B before the last position {}", progress.rows_with_inner_b);
+    println!(
+        "rows with B before the last position {}",
+        progress.rows_with_inner_b
+    );
     println!("different {}", progress.different);
     if progress.cases == 0 {
         return fail("the file has no cases");
@@ -164,7 +167,10 @@ fn class_number(name: &str) -> Option<u8> {
 
 /// Runs one row in each direction of its bit set and counts.
 fn run_row(progress: &mut Progress, row: &Row, line: &str, number: usize) -> Result<(), String> {
-    let levels = progress.levels.as_ref().ok_or("no levels before this row")?;
+    let levels = progress
+        .levels
+        .as_ref()
+        .ok_or("no levels before this row")?;
     let order = progress.order.as_ref().ok_or("no order before this row")?;
     progress.rows += 1;
     if row.classes[..row.classes.len().saturating_sub(1)].contains(&15) {

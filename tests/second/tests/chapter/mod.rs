@@ -26,7 +26,11 @@ fn example(text: &str) -> Vec<u8> {
 /// What a reader sees: the characters in display order, marks not shown.
 fn shown(text: &str, order: &[u16]) -> String {
     let memory: Vec<char> = text.chars().collect();
-    order.iter().map(|&place| memory[usize::from(place)]).filter(|&c| c != '|').collect()
+    order
+        .iter()
+        .map(|&place| memory[usize::from(place)])
+        .filter(|&c| c != '|')
+        .collect()
 }
 
 /// The display of a memory text, base level by text.
@@ -46,13 +50,23 @@ fn display_at(text: &str, digits: &str, base: u8) -> String {
 
 /// The resolved levels of class names.
 fn resolved(names: &str, request: u8, wanted: &str) {
-    assert_eq!(resolve(&classes(names), request).1, levels(wanted), "{names} at {request}");
+    assert_eq!(
+        resolve(&classes(names), request).1,
+        levels(wanted),
+        "{names} at {request}"
+    );
 }
 
 #[test]
 fn reordering_examples() {
-    assert_eq!(display_at("car means CAR.", "00000000001110", 0), "car means RAC.");
-    assert_eq!(display_at("car MEANS CAR.", "22211111111111", 1), ".RAC SNAEM car");
+    assert_eq!(
+        display_at("car means CAR.", "00000000001110", 0),
+        "car means RAC."
+    );
+    assert_eq!(
+        display_at("car MEANS CAR.", "22211111111111", 1),
+        ".RAC SNAEM car"
+    );
     assert_eq!(
         display_at("he said \"car MEANS CAR.\"", "000000000222111111111100", 0),
         "he said \"RAC SNAEM car.\""
@@ -71,7 +85,10 @@ fn reordering_examples() {
 fn memory_example_of_the_definitions() {
     let given = example("car is THE CAR in arabic");
     let (base, found) = resolve(&given, 2);
-    let digits: Vec<u8> = b"000000011111110000000000".iter().map(|digit| digit - b'0').collect();
+    let digits: Vec<u8> = b"000000011111110000000000"
+        .iter()
+        .map(|digit| digit - b'0')
+        .collect();
     assert_eq!((base, found), (0, digits));
 }
 
@@ -179,6 +196,7 @@ fn w4_single_separators() {
     resolved("EN CS", 1, "2 1");
     resolved("R CS R", 1, "1 1 1");
     resolved("L CS L", 1, "2 2 2");
+    resolved("EN ET CS ET", 1, "2 2 1 1");
 }
 
 #[test]
@@ -222,6 +240,8 @@ fn n1_neutrals_between_equal_directions() {
     resolved("R EN ON AN", 0, "1 2 1 2");
     resolved("AN ON AN", 0, "2 1 2");
     resolved("R WS ON S R", 0, "1 1 1 1 1");
+    resolved("L ON B", 0, "0 0 0");
+    resolved("R ON B", 1, "1 1 1");
 }
 
 #[test]
@@ -232,6 +252,8 @@ fn n2_other_neutrals_take_the_run_direction() {
     resolved("L WS ON R", 1, "2 1 1 1");
     resolved("L ON AN", 1, "2 1 2");
     resolved("LRE R ON L", 0, "- 3 2 2");
+    resolved("R ON B", 0, "1 0 0");
+    resolved("L WS B", 1, "2 1 1");
 }
 
 #[test]
@@ -246,5 +268,8 @@ fn a_mixed_line() {
     let given = classes("L WS R WS EN CS EN WS L R");
     let (base, found) = resolve(&given, 0);
     assert_eq!(found, levels("0 0 1 1 2 2 2 0 0 1"));
-    assert_eq!(line(&given, &found, base, 0, 10), places("0 1 4 5 6 3 2 7 8 9"));
+    assert_eq!(
+        line(&given, &found, base, 0, 10),
+        places("0 1 4 5 6 3 2 7 8 9")
+    );
 }

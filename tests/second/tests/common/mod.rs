@@ -17,7 +17,12 @@ pub fn classes(names: &str) -> Vec<u8> {
     ];
     names
         .split_whitespace()
-        .map(|name| known.iter().position(|&other| other == name).expect("a class name") as u8)
+        .map(|name| {
+            known
+                .iter()
+                .position(|&other| other == name)
+                .expect("a class name") as u8
+        })
         .collect()
 }
 
@@ -25,13 +30,22 @@ pub fn classes(names: &str) -> Vec<u8> {
 pub fn levels(words: &str) -> Vec<u8> {
     words
         .split_whitespace()
-        .map(|word| if word == "-" { 255 } else { word.parse().expect("a level") })
+        .map(|word| {
+            if word == "-" {
+                255
+            } else {
+                word.parse().expect("a level")
+            }
+        })
         .collect()
 }
 
 /// Places, a blank between two.
 pub fn places(words: &str) -> Vec<u16> {
-    words.split_whitespace().map(|word| word.parse().expect("a place")).collect()
+    words
+        .split_whitespace()
+        .map(|word| word.parse().expect("a place"))
+        .collect()
 }
 
 /// The base used and the levels after X9.
@@ -65,7 +79,10 @@ pub fn lines(classes: &[u8], levels: &[u8], base: u8, ends: &[u16]) -> Vec<u16> 
 /// The first `count` levels, after seeing that all of them and none after them
 /// were written.
 fn written_levels(mut buffer: Vec<u8>, count: usize) -> Vec<u8> {
-    assert!(buffer[count..].iter().all(|&level| level == LEVEL_MARK), "wrote too far");
+    assert!(
+        buffer[count..].iter().all(|&level| level == LEVEL_MARK),
+        "wrote too far"
+    );
     buffer.truncate(count);
     assert!(!buffer.contains(&LEVEL_MARK), "left a level out");
     buffer
@@ -74,7 +91,10 @@ fn written_levels(mut buffer: Vec<u8>, count: usize) -> Vec<u8> {
 /// The first `count` places, after seeing that all of them and none after them
 /// were written.
 fn written_places(mut buffer: Vec<u16>, count: usize) -> Vec<u16> {
-    assert!(buffer[count..].iter().all(|&place| place == ORDER_MARK), "wrote too far");
+    assert!(
+        buffer[count..].iter().all(|&place| place == ORDER_MARK),
+        "wrote too far"
+    );
     buffer.truncate(count);
     assert!(!buffer.contains(&ORDER_MARK), "left a place out");
     buffer

@@ -11,7 +11,10 @@ fn refused_levels(text: &[u8], request: u8, room: usize) -> Refused {
     let first = explicit_levels(text, request, &mut buffer);
     let second = resolve_levels(text, request, &mut buffer);
     assert_eq!(first, second, "the two level jobs");
-    assert!(buffer.iter().all(|&level| level == LEVEL_MARK), "altered levels");
+    assert!(
+        buffer.iter().all(|&level| level == LEVEL_MARK),
+        "altered levels"
+    );
     first.expect_err("refused")
 }
 
@@ -26,7 +29,10 @@ fn refused_line(
 ) -> Refused {
     let mut buffer = vec![ORDER_MARK; room];
     let found = order_line(text, lent, base, from, to, &mut buffer);
-    assert!(buffer.iter().all(|&place| place == ORDER_MARK), "altered order");
+    assert!(
+        buffer.iter().all(|&place| place == ORDER_MARK),
+        "altered order"
+    );
     found.expect_err("refused")
 }
 
@@ -34,7 +40,10 @@ fn refused_line(
 fn refused_lines(text: &[u8], lent: &[u8], base: u8, ends: &[u16], room: usize) -> Refused {
     let mut buffer = vec![ORDER_MARK; room];
     let found = order_lines(text, lent, base, ends, &mut buffer);
-    assert!(buffer.iter().all(|&place| place == ORDER_MARK), "altered order");
+    assert!(
+        buffer.iter().all(|&place| place == ORDER_MARK),
+        "altered order"
+    );
     found.expect_err("refused")
 }
 
@@ -156,8 +165,16 @@ fn no_7_lent_levels() {
         ("0 7 63 7 -", 1),
     ];
     for (lent, place) in faults {
-        assert_eq!(refused_line(&text, &levels(lent), 0, (0, 5), 5), (7, place), "{lent}");
-        assert_eq!(refused_lines(&text, &levels(lent), 0, &[5], 5), (7, place), "{lent}");
+        assert_eq!(
+            refused_line(&text, &levels(lent), 0, (0, 5), 5),
+            (7, place),
+            "{lent}"
+        );
+        assert_eq!(
+            refused_lines(&text, &levels(lent), 0, &[5], 5),
+            (7, place),
+            "{lent}"
+        );
     }
     let mut order = [0; 5];
     let highest = levels("62 - 62 - 62");
@@ -169,7 +186,11 @@ fn no_7_asks_255_of_every_removed_class() {
     for name in ["LRE", "LRO", "RLE", "RLO", "PDF", "BN"] {
         let text = classes(name);
         assert_eq!(refused_line(&text, &[0], 0, (0, 1), 1), (7, 0), "{name}");
-        assert_eq!(order_line(&text, &[255], 0, 0, 1, &mut [0]), Ok(0), "{name}");
+        assert_eq!(
+            order_line(&text, &[255], 0, 0, 1, &mut [0]),
+            Ok(0),
+            "{name}"
+        );
     }
     for name in "L R AL EN ES ET AN CS NSM B S WS ON".split(' ') {
         let text = classes(name);
@@ -195,8 +216,21 @@ fn no_7_comes_before_8_and_10() {
 fn no_8_line() {
     let text = classes("L R L");
     let lent = levels("0 1 0");
-    for bounds in [(0, 0), (1, 1), (3, 3), (2, 1), (0, 4), (2, 4), (3, 4), (usize::MAX, 0)] {
-        assert_eq!(refused_line(&text, &lent, 0, bounds, 9), (8, 0), "{bounds:?}");
+    for bounds in [
+        (0, 0),
+        (1, 1),
+        (3, 3),
+        (2, 1),
+        (0, 4),
+        (2, 4),
+        (3, 4),
+        (usize::MAX, 0),
+    ] {
+        assert_eq!(
+            refused_line(&text, &lent, 0, bounds, 9),
+            (8, 0),
+            "{bounds:?}"
+        );
     }
     assert_eq!(refused_line(&text, &lent, 0, (0, usize::MAX), 9), (8, 0));
     assert_eq!(order_line(&text, &lent, 0, 2, 3, &mut [0]), Ok(1));
@@ -249,7 +283,11 @@ fn no_10_ends() {
         assert_eq!(refused_lines(&text, &lent, 0, ends, 9), (10, 0), "{ends:?}");
     }
     for ends in [&[3][..], &[1, 3], &[1, 2, 3]] {
-        assert_eq!(order_lines(&text, &lent, 0, ends, &mut [0; 3]), Ok(3), "{ends:?}");
+        assert_eq!(
+            order_lines(&text, &lent, 0, ends, &mut [0; 3]),
+            Ok(3),
+            "{ends:?}"
+        );
     }
 }
 
