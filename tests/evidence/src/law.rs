@@ -29,7 +29,7 @@ fn places(levels: &[u8], from: usize, order: &[u16]) -> Option<Vec<Option<usize>
     }
     let kept = |&level: &u8| level != REMOVED_LEVEL;
     let right = levels.iter().map(kept).eq(places.iter().map(Option::is_some));
-    right.then(|| places)
+    right.then_some(places)
 }
 
 /// The law for one position with every later one.

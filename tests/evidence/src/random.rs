@@ -43,7 +43,7 @@ struct Case<'a> {
 }
 
 impl Case<'_> {
-    fn new(tally: &mut Tally, seed: u64, case: u64) -> Case {
+    fn new(tally: &mut Tally, seed: u64, case: u64) -> Case<'_> {
         Case { tally, name: format!("seed {seed}, case {case}: "), random: Generator::new(seed, case) }
     }
 
