@@ -33,8 +33,8 @@ fn nest(row: &mut [u8], n: usize) {
     }
 }
 
-// From base 0, 60 codes reach level 60; then LRE (invalid) and RLE (valid).
-pub(crate) fn invalid_codes() {
+// From base 0, 60 codes reach level 60; then LRE (invalid) and RLE (valid). The explicit levels of the four L.
+fn invalid_codes() {
     let mut room = [L; 69];
     let row: &mut [u8] = &mut room;
     nest(row, 60);
@@ -44,25 +44,6 @@ pub(crate) fn invalid_codes() {
     put(row, 65, PDF);
     put(row, 67, PDF);
     run::explicit(b"60 codes LRE RLE L PDF L PDF L PDF L", row, 0);
-    run::row(b"60 codes LRE RLE L PDF L PDF L PDF L", row, 0);
-}
-
-// 61 codes reach level 61, and an L there resolves to 62.
-fn deepest() {
-    let mut room = [L; 62];
-    let row: &mut [u8] = &mut room;
-    nest(row, 61);
-    run::row(b"61 codes L", row, 0);
-}
-
-// The 62nd code is invalid, and the first PDF is its own.
-fn too_deep() {
-    let mut room = [L; 67];
-    let row: &mut [u8] = &mut room;
-    nest(row, 62);
-    put(row, 63, PDF);
-    put(row, 65, PDF);
-    run::row(b"62 codes L PDF L PDF L", row, 0);
 }
 
 fn resolved(classes: &[u8]) {
@@ -133,8 +114,7 @@ fn end_past_the_longest() {
 
 pub(crate) fn edges() {
     say::text(b"edges\n");
-    deepest();
-    too_deep();
+    invalid_codes();
     longest();
     too_long();
     fault_past_the_longest();

@@ -1,117 +1,28 @@
-// Runs document 01's table, its edges, its plausible errors and each refusal at its edges, and writes
-// what the library answers. The file stdout beside src/ holds what that has to be.
+// Runs what the printing program cannot say: line ends, Explicit, Cut, lent levels and short buffers, with each
+// refusal at its edges, and writes what the library answers. The file stdout beside src/ holds what that has to be.
 mod lent;
 mod long;
 mod run;
 mod say;
 
-use classes::AL;
-use classes::AN;
 use classes::B;
-use classes::BN;
-use classes::CS;
-use classes::EN;
-use classes::ES;
-use classes::ET;
 use classes::L;
-use classes::LRE;
-use classes::LRO;
-use classes::NSM;
 use classes::ON;
 use classes::PDF;
 use classes::R;
-use classes::RLE;
-use classes::RLO;
-use classes::S;
 use classes::WS;
 
-const BY_TEXT: u8 = 2;
 // 18 is the highest class, and 19 is none.
 const NONE: u8 = 19;
 
 const REMOVED: u8 = classes::REMOVED_LEVEL;
 
-// Document 01's table.
-fn table() {
-    say::text(b"table\n");
-    run::row(b"L", &[L], BY_TEXT);
-    run::row(b"AL EN", &[AL, EN], BY_TEXT);
-    run::row(b"L WS EN", &[L, WS, EN], BY_TEXT);
-    run::row(b"EN CS EN", &[EN, CS, EN], 1);
-}
-
-// Separators of numbers, and neutrals between directions.
-fn table_separators() {
-    run::row(b"EN CS CS EN", &[EN, CS, CS, EN], 1);
-    run::row(b"AN ET EN", &[AN, ET, EN], 1);
-    run::row(b"R WS L", &[R, WS, L], 0);
-}
-
-// Runs, removed positions and the reset.
-fn table_runs() {
-    run::row(b"R WS L", &[R, WS, L], 1);
-    run::row(b"RLE L PDF R", &[RLE, L, PDF, R], 0);
-    run::row(b"EN BN CS EN", &[EN, BN, CS, EN], 1);
-    run::row(b"R S R", &[R, S, R], 0);
-}
-
-// What is removed or reset, and the ends of lines.
+// The rows of document 01's table with line ends. All its other rows, and the plausible errors, are one paragraph that is
+// one line: they are in the printing program's run.
 fn table_lines() {
-    run::row(b"PDF L", &[PDF, L], 0);
-    run::row(b"NSM", &[NSM], 1);
-    run::row(b"B", &[B], BY_TEXT);
+    say::text(b"table\n");
     run::lines(b"R WS R, ends 2 and 3", &[R, WS, R], 0, &[2, 3]);
     run::lines(b"R WS R, end 3", &[R, WS, R], 0, &[3]);
-}
-
-// The five plausible errors; the fourth shows in an order only where two positions are kept.
-fn errors() {
-    say::text(b"plausible errors\n");
-    long::invalid_codes();
-    run::row(b"L EN ET", &[L, EN, ET], 1);
-    run::row(b"AL LRE EN", &[AL, LRE, EN], 0);
-    run::row(b"RLO WS", &[RLO, WS], 0);
-    run::row(b"RLO L WS", &[RLO, L, WS], 0);
-    run::row(b"EN EN", &[EN, EN], 1);
-}
-
-// Marks and numbers: W1 to W3.
-fn weak_marks_and_numbers() {
-    say::text(b"single rules\n");
-    run::row(b"AL NSM NSM EN", &[AL, NSM, NSM, EN], 0);
-    run::row(b"L RLE NSM EN", &[L, RLE, NSM, EN], 0);
-    run::row(b"AL WS EN R EN", &[AL, WS, EN, R, EN], 0);
-    run::row(b"AL L AN", &[AL, L, AN], 0);
-}
-
-// Separators and terminators: W4 to W7.
-fn weak_separators() {
-    run::row(b"AN CS AN CS EN", &[AN, CS, AN, CS, EN], 1);
-    run::row(b"EN ES EN ES ES EN", &[EN, ES, EN, ES, ES, EN], 1);
-    run::row(b"ET ET EN ET CS", &[ET, ET, EN, ET, CS], 1);
-    run::row(b"L WS EN ET R EN", &[L, WS, EN, ET, R, EN], 0);
-}
-
-// Neutrals: N1 and N2, also beside numbers and at the ends of a run.
-fn neutral_directions() {
-    run::row(b"R ON EN WS R", &[R, ON, EN, WS, R], 0);
-    run::row(b"L WS AN S L", &[L, WS, AN, S, L], 0);
-    run::row(b"ON R ON L ON", &[ON, R, ON, L, ON], 1);
-}
-
-// Overrides, and what the reset takes back: X4 to X9, L1 and L2.
-fn overrides_and_lines() {
-    run::row(
-        b"RLO EN ET PDF LRO R AL PDF",
-        &[RLO, EN, ET, PDF, LRO, R, AL, PDF],
-        0,
-    );
-    run::row(b"R WS BN WS S R WS", &[R, WS, BN, WS, S, R, WS], 0);
-    run::row(
-        b"L LRE R EN PDF RLE L B",
-        &[L, LRE, R, EN, PDF, RLE, L, B],
-        1,
-    );
 }
 
 // Refusals of the classes: 1, 2 and 4, and which of two faults comes first.
@@ -279,15 +190,7 @@ fn cuts() {
 }
 
 fn main() {
-    table();
-    table_separators();
-    table_runs();
     table_lines();
-    errors();
-    weak_marks_and_numbers();
-    weak_separators();
-    neutral_directions();
-    overrides_and_lines();
     long::edges();
     cuts();
     bad_classes();
