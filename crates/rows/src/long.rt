@@ -73,12 +73,15 @@ fn ordered(classes: &[u8], levels: &[u8]) {
     }
 }
 
-// 4,096 positions are accepted.
+// 4,096 positions are accepted, the last a B or not.
 fn longest() {
-    let row = [L; 4096];
+    let mut room = [L; 4096];
+    let row: &mut [u8] = &mut room;
     say::text(b"4,096 positions:");
-    resolved(&row);
-    run::cut(b"4,096 positions", &row);
+    resolved(row);
+    run::cut(b"4,096 positions", row);
+    put(row, 4095, B);
+    run::cut(b"4,096 positions, B at the last", row);
 }
 
 // 4,097 are refused; Cut looks at no more than 4,096.

@@ -183,6 +183,8 @@ fn cuts() {
     say::text(b"cut\n");
     run::cut(b"no classes", &[]);
     run::cut(b"L R", &[L, R]);
+    run::cut(b"B", &[B]);
+    run::cut(b"L B", &[L, B]);
     run::cut(b"L B R B", &[L, B, R, B]);
     run::cut(b"B B", &[B, B]);
     run::cut(b"class 19 before B", &[L, NONE, B]);

@@ -143,8 +143,6 @@ pub(crate) fn cut(name: &[u8], classes: &[u8]) {
             say::number(length);
         }
     }
-    let part = melvorash::cut_part(classes);
-    say::text(b", part ");
-    say::number(part.len());
+    say::part(melvorash::cut_part(classes));
     end();
 }

@@ -18,7 +18,7 @@ fn wide(n: u16) {
     number(n as usize);
 }
 
-// A level, or a dash where the position is removed. Past the buffer's end there is none.
+// A level, or a dash where the position is removed; a class is written as its number. Past the end there is none.
 fn level_at(levels: &[u8], i: usize) {
     if i < levels.len() {
         let level = levels[i];
@@ -56,6 +56,17 @@ pub(crate) fn order(order: &[u16], n: usize) {
         place_at(order, i);
         i += 1;
     }
+}
+
+// A part of the classes: how long it is, and its first four.
+pub(crate) fn part(part: &[u8]) {
+    text(b", part ");
+    number(part.len());
+    text(b":");
+    level_at(part, 0);
+    level_at(part, 1);
+    level_at(part, 2);
+    level_at(part, 3);
 }
 
 pub(crate) fn refused(refusal: Refusal) {
