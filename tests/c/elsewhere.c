@@ -5,15 +5,25 @@
 #include "melvorash.h"
 
 void module_cut(melvorash_answer *, const uint8_t *, size_t);
+void module_base(melvorash_answer *, const uint8_t *, size_t);
 void module_explicit(melvorash_answer *, const uint8_t *, size_t, uint8_t, uint8_t *, size_t);
 void module_resolve(melvorash_answer *, const uint8_t *, size_t, uint8_t, uint8_t *, size_t);
 void module_order_line(melvorash_answer *, const uint8_t *, size_t, const uint8_t *, size_t, uint8_t, size_t,
                        size_t, uint16_t *, size_t);
+void module_order_lines(melvorash_answer *, const uint8_t *, size_t, const uint8_t *, size_t, uint8_t,
+                        const uint16_t *, size_t, uint16_t *, size_t);
 
 melvorash_answer melvorash_cut(const uint8_t *classes, size_t class_count)
 {
     melvorash_answer answer;
     module_cut(&answer, classes, class_count);
+    return answer;
+}
+
+melvorash_answer melvorash_base(const uint8_t *classes, size_t class_count)
+{
+    melvorash_answer answer;
+    module_base(&answer, classes, class_count);
     return answer;
 }
 
@@ -39,5 +49,14 @@ melvorash_answer melvorash_order_line(const uint8_t *classes, size_t class_count
 {
     melvorash_answer answer;
     module_order_line(&answer, classes, class_count, levels, level_count, base, from, to, order, order_count);
+    return answer;
+}
+
+melvorash_answer melvorash_order_lines(const uint8_t *classes, size_t class_count, const uint8_t *levels,
+                                       size_t level_count, uint8_t base, const uint16_t *ends, size_t end_count,
+                                       uint16_t *order, size_t order_count)
+{
+    melvorash_answer answer;
+    module_order_lines(&answer, classes, class_count, levels, level_count, base, ends, end_count, order, order_count);
     return answer;
 }
