@@ -1,5 +1,5 @@
 -- No line's output has as many bytes as the buffer that the program lends for it. Assumes nothing.
-use Prim.Native.Nat.{ℕ, suc, _+_, _*_, _≤_, _<_}
+use Prim.Native.Nat.{ℕ, suc, _+_, _≤_, _<_}
 use native.Mathlib.Omega.{arith}
 use mathlib.Core.Path.{_≡_, refl, sym, ap, _∙_}
 use mathlib.Core.Bool.{Bool, true, false}
@@ -22,7 +22,7 @@ use Rattle.pairwise.proofs.Theorem.{demand3}
 use Rattle.words.specs.Words.{requestOf, classesOf}
 use Rattle.writing.specs.Text.{baseRow, levelsRow, orderRow}
 use Rattle.writing.proofs.SizeLaws.{base-row-size, levels-row-size, order-row-size, refused-row-size}
-use Rattle.printing.specs.Printing.{toldRows, paragraphRows, paragraphText, lineText, mostOutput}
+use Rattle.printing.specs.Printing.{paragraphRows, paragraphText, lineText, mostOutput}
 use Rattle.printing.proofs.TextLaws.{checks-told}
 
 -- ---- a refusal of a paragraph has a small number and a place in it

@@ -2,7 +2,7 @@
 use Prim.Native.Nat.{ℕ, _+_, _-_, _≤_, _<_}
 use native.Mathlib.Omega.{arith}
 use mathlib.Core.Path.{_≡_, refl, sym, ap, _∙_}
-use mathlib.Core.Bool.{true, false, _||_}
+use mathlib.Core.Bool.{false}
 use mathlib.Core.Logic.{_⊎_, inl, inr}
 use mathlib.Core.List.{List, [], _∷_, _++_}
 use borrow.Author.Tests.{le-ltb, lt-ltb, lt-leb}
@@ -12,7 +12,7 @@ use lib.Seq.{take-all, take-append-seam}
 use Rattle.rules.specs.Paragraph.{baseOf}
 use Rattle.rules.specs.Resolve.{resolvedLevels}
 use Rattle.rules.specs.Line.{part, lineLevels, lineOrder}
-use Rattle.rules.specs.Refusals.{Check, sound, refuse, _andThen_, refuseWhere, isEmpty, checkSome, checkLength, checkClasses, checkRequest, checkLevelRoom, checkLine, checkOrderRoom, checksOfLevels, checksOfOrder, checksOfLine}
+use Rattle.rules.specs.Refusals.{Check, sound, refuse, _andThen_, checkSome, checkLength, checkClasses, checkRequest, checkLevelRoom, checkLine, checkOrderRoom, checksOfLevels, checksOfOrder, checksOfLine}
 use Rattle.rules.specs.Jobs.{accepted, refused, answered, over, levelsAnswer, resolveBuffer, lineAnswer, lineBuffer}
 use Rattle.rules.proofs.Lists.{le-or-lt}
 use Rattle.refusals.proofs.SoundLaws.{classes-length, classes-some, levels-sound}
@@ -23,7 +23,7 @@ use Rattle.melvorash.specs.declared.answers.OrderAnswer.{OrderAnswer}
 use Rattle.melvorash.proofs.JobLaws.{accepted-value, never-both, accepted-sound}
 use Rattle.melvorash.proofs.LevelTheorems.{order-takes-resolved}
 use Rattle.writing.specs.Text.{refusedRow}
-use Rattle.printing.specs.Printing.{toldRows, paragraphRows, paragraphText}
+use Rattle.printing.specs.Printing.{paragraphRows, paragraphText}
 
 -- ---- one class beyond the longest paragraph is enough to refuse it
 too-long : (cs : List ℕ) → 4096 < length cs → checkClasses cs ≡ refuse 3 0
