@@ -1,6 +1,9 @@
 // What the rules on stretches and runs share, over plain slices.
 ghost use mathlib.Core.Path.{_≡_};
+ghost use mathlib.Core.Bool.{_||_};
 ghost use lib.ListN.{length, getD, replicate};
+ghost use Rattle.rules.specs.Classes.{isRemoved};
+ghost use Rattle.rules.proofs.Any.{anyOf};
 
 // The element at `i`; past the end, what stands there: for the types of a run its end type, for levels the base.
 pub fn element_or(types: &[u8], i: usize, end: u8) -> u8
@@ -21,4 +24,28 @@ pub fn fill(part: &mut [u8], t: u8)
         part[i] = t;
         i += 1;
     }
+}
+
+// Both are known already, so that a loop over many places has no branch.
+pub fn either(a: bool, b: bool) -> bool
+    ensures { λ r. ⌜ r ≡ (a || b) ⌝ }
+{
+    if a {
+        return true;
+    }
+    b
+}
+
+// A paragraph or line without codes and BN is spared all that they ask for. It looks at every position: a loop that
+// could stop at the first would read them one by one.
+pub fn any_removed(classes: &[u8]) -> bool
+    ensures { λ r. ⌜ r ≡ anyOf isRemoved (now (classes .entry)) ⌝ }
+{
+    let mut found = false;
+    let mut i: usize = 0;
+    while i < classes.len() {
+        found = either(found, classes::is_removed(classes[i]));
+        i += 1;
+    }
+    found
 }

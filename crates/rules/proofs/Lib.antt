@@ -2,5 +2,6 @@
 pub mod Determined
 pub mod Tests
 pub mod Lists
+pub mod Any
 pub mod Passes
 pub mod Filling
