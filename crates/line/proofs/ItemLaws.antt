@@ -1,18 +1,21 @@
 -- The passes of the definition move items, each with its level; the code moves positions and reads levels by place.
 -- Both give the same: a pass leaves every test on a level not above its own as it was at each place.
 -- Assumes nothing.
-use Prim.Native.Nat.{ℕ, zero, suc, _≤_, max, min}
+use Prim.Native.Nat.{ℕ, zero, suc, _%_, _≤_, _<_, max, min}
 use native.Mathlib.Omega.{arith}
 use mathlib.Core.Path.{_≡_, refl, sym, ap, _∙_}
+use mathlib.Core.Logic.{_⊎_, inl, inr}
 use mathlib.Core.Bool.{Bool, true, false}
 use mathlib.Core.List.{List, [], _∷_, _++_, map, append-assoc}
 use lib.Dec.{leb}
 use lib.ListN.{length}
-use borrow.Author.Tests.{leb-true, le-leb}
+use borrow.Author.Tests.{leb-true, le-leb, lt-leb, eqb-false}
 use Rattle.rules.specs.Choice.{if_then_else_, isOdd}
-use Rattle.rules.specs.Line.{Item, pass, passes, highest, lowestOdd}
+use Rattle.rules.specs.Line.{Item, L2, pass, passes, highest, lowestOdd}
+use Rattle.rules.proofs.Lists.{le-or-lt}
 use Rattle.line.specs.Gathered.{positions, levelsOf}
 use Rattle.line.specs.Passes.{atLevels, passBy, passesBy}
+use Rattle.line.proofs.ScanLaws.{low-min}
 
 -- at which of the levels a pass would turn
 abbrev tests : ℕ → List ℕ → List Bool
@@ -108,3 +111,52 @@ pub lowestOdd-levels : (none : ℕ) (xs : List Item) → lowestOdd none (atLevel
 unfolding lowestOdd
 lowestOdd-levels none [] = refl
 lowestOdd-levels none (x ∷ xs) = ap (λ (n : ℕ). if isOdd (x .level) then min (x .level) n else n) (lowestOdd-levels none xs)
+
+-- the highest level is even, or an odd one lies within it
+within-if : (b : Bool) (l low top : ℕ) → isOdd l ≡ b → (low ≤ top) ⊎ (top % 2 ≡ 0) → ((if b then min l low else low) ≤ max l top) ⊎ (max l top % 2 ≡ 0)
+within-if true l low top e h = inl (omega arith)
+within-if false l low top e (inl h) = inl (omega arith)
+within-if false l low top e (inr h) = even (le-or-lt l top)
+  where
+    even : (l ≤ top) ⊎ (top < l) → (low ≤ max l top) ⊎ (max l top % 2 ≡ 0)
+    even (inl g) = let m : max l top ≡ top = omega arith in inr (ap (λ (n : ℕ). n % 2) m ∙ h)
+    even (inr g) =
+        let m : max l top ≡ l = omega arith in
+        let n : ¬ (l % 2 ≡ 1) = eqb-false (l % 2) 1 e in
+        inr (ap (λ (n : ℕ). n % 2) m ∙ omega arith)
+
+odd-within : (none : ℕ) (xs : List Item) → (lowestOdd none xs ≤ highest xs) ⊎ (highest xs % 2 ≡ 0)
+unfolding highest lowestOdd
+odd-within none [] = inr refl
+odd-within none (x ∷ xs) = within-if (isOdd (x .level)) (x .level) (lowestOdd none xs) (highest xs) refl (odd-within none xs)
+
+passes-none : (level lowest : ℕ) (xs : List Item) → level < lowest → passes level lowest xs ≡ xs
+unfolding passes
+passes-none zero lowest xs h = refl
+passes-none (suc level) lowest xs h = simp (lt-leb lowest (suc level) h)
+
+-- among bytes the lowest odd level may be taken as 255 where there is none: the highest is then even, so below it
+module _ (xs : List Item) (byte : highest xs < 256) where
+  same-passes : (low low′ : ℕ) → (low ≡ low′) ⊎ ((highest xs < low) × (highest xs < low′)) → passes (highest xs) low xs ≡ passes (highest xs) low′ xs
+  same-passes low low′ (inl e) = ap (λ (n : ℕ). passes (highest xs) n xs) e
+  same-passes low low′ (inr h) = passes-none (highest xs) low xs (h .0) ∙ sym (passes-none (highest xs) low′ xs (h .1))
+
+  same-low : (255 ≤ highest xs) ⊎ (highest xs < 255) → (lowestOdd 255 xs ≤ suc (highest xs)) ⊎ (suc (highest xs) < lowestOdd 255 xs) → (lowestOdd (suc (highest xs)) xs ≤ highest xs) ⊎ (highest xs % 2 ≡ 0) → (lowestOdd 255 xs ≡ lowestOdd (suc (highest xs)) xs) ⊎ ((highest xs < lowestOdd 255 xs) × (highest xs < lowestOdd (suc (highest xs)) xs))
+  same-low (inl top) l (inl w) =
+      let m : min 255 (suc (highest xs)) ≡ 255 = omega arith in
+      let e : lowestOdd 255 xs ≡ min 255 (lowestOdd (suc (highest xs)) xs) = ap (λ (n : ℕ). lowestOdd n xs) (sym m) ∙ low-min 255 (suc (highest xs)) xs in
+      inl (omega arith)
+  same-low (inl top) l (inr w) = absurd (omega arith)
+  same-low (inr top) l w =
+      let m : min (suc (highest xs)) 255 ≡ suc (highest xs) = omega arith in
+      let e : lowestOdd (suc (highest xs)) xs ≡ min (suc (highest xs)) (lowestOdd 255 xs) = ap (λ (n : ℕ). lowestOdd n xs) (sym m) ∙ low-min (suc (highest xs)) 255 xs in
+      either l e
+    where
+      either : (lowestOdd 255 xs ≤ suc (highest xs)) ⊎ (suc (highest xs) < lowestOdd 255 xs) → lowestOdd (suc (highest xs)) xs ≡ min (suc (highest xs)) (lowestOdd 255 xs) → (lowestOdd 255 xs ≡ lowestOdd (suc (highest xs)) xs) ⊎ ((highest xs < lowestOdd 255 xs) × (highest xs < lowestOdd (suc (highest xs)) xs))
+      either (inl h) e = inl (omega arith)
+      either (inr h) e = inr (omega arith, omega arith)
+
+  pub L2-of-bytes : passes (highest xs) (lowestOdd 255 xs) xs ≡ L2 xs
+  unfolding L2
+  L2-of-bytes = same-passes (lowestOdd 255 xs) (lowestOdd (suc (highest xs)) xs)
+      (same-low (le-or-lt 255 (highest xs)) (le-or-lt (lowestOdd 255 xs) (suc (highest xs))) (odd-within (suc (highest xs)) xs))

@@ -2,7 +2,6 @@
 -- Assumes nothing.
 use Prim.Native.Nat.{ℕ, zero, suc, _+_, _-_, _≤_, _<_}
 use native.Mathlib.Nat.{zero-add}
-use native.Mathlib.Numerals.{add-one}
 use native.Mathlib.Omega.{arith}
 use mathlib.Core.Path.{_≡_, refl, sym, ap, subst, _∙_}
 use mathlib.Core.Bool.{Bool, true, false}
@@ -22,7 +21,7 @@ use Rattle.line.specs.Gathered.{Gathered, positions, levelsOf, lineItems
 use Rattle.line.specs.Ordered.{Ordered}
 use Rattle.line.specs.Passes.{atLevels, passesBy}
 use Rattle.rules.proofs.Filling.{Filled, filled-begun, filled-part, filled-ended}
-use Rattle.line.proofs.ItemLaws.{passes-positions, highest-levels, lowestOdd-levels}
+use Rattle.line.proofs.ItemLaws.{passes-positions, highest-levels, lowestOdd-levels, L2-of-bytes}
 use Rattle.line.proofs.ResetLaws.{length-L1}
 
 -- how many items there are
@@ -98,18 +97,17 @@ module _ (base from : ℕ) (cs ls work work₁ work₂ order order₂ : List ℕ
       ∙ take-at (levelsOf (lineItems base from cs ls)) (drop (length (levelsOf (lineItems base from cs ls))) work₁) r levels-length
 
   -- the highest level, the lowest odd one and the passes between them, over the levels of the kept positions
-  pub line-ordered : (top lowest : ℕ) (order₃ : List ℕ) → top ≡ highest (atLevels (take r work₂)) → lowest ≡ lowestOdd (top + 1) (atLevels (take r work₂)) → order₃ ≡ passesBy top lowest (take r work₂) order₂ → Ordered (positions (L2 (lineItems base from cs ls))) order r order₃
-  unfolding L2
-  line-ordered top lowest order₃ et el eo =
+  pub line-ordered : (top lowest : ℕ) (order₃ : List ℕ) → top < 256 → top ≡ highest (atLevels (take r work₂)) → lowest ≡ lowestOdd 255 (atLevels (take r work₂)) → order₃ ≡ passesBy top lowest (take r work₂) order₂ → Ordered (positions (L2 (lineItems base from cs ls))) order r order₃
+  line-ordered top lowest order₃ byte et el eo =
       let xs : List Item = lineItems base from cs ls in
       let top-is : top ≡ highest xs = et ∙ ap (λ (l : List ℕ). highest (atLevels l)) line-levels ∙ highest-levels xs in
-      let lowest-is : lowest ≡ lowestOdd (suc (highest xs)) xs =
-      el ∙ (λ j. lowestOdd ((add-one top ∙ ap suc top-is) j) (atLevels (line-levels j))) ∙ lowestOdd-levels (suc (highest xs)) xs in
+      let lowest-is : lowest ≡ lowestOdd 255 xs = el ∙ ap (λ (l : List ℕ). lowestOdd 255 (atLevels l)) line-levels ∙ lowestOdd-levels 255 xs in
       let long : length (positions (L2 xs)) ≡ length (positions xs) = length-positions (L2 xs) ∙ length-L2 xs ∙ sym (length-positions xs) in
       record {
         count = line-gathered .count ∙ sym (length-positions (L2 xs) ∙ length-L2 xs);
         order = eo ∙ (λ j. passesBy (top-is j) (lowest-is j) (line-levels j) (line-gathered .placed j))
-            ∙ passes-positions (highest xs) (lowestOdd (suc (highest xs)) xs) xs (drop (length (positions xs)) order)
+            ∙ passes-positions (highest xs) (lowestOdd 255 xs) xs (drop (length (positions xs)) order)
+            ∙ ap (λ (ys : List Item). positions ys ++ drop (length (positions xs)) order) (L2-of-bytes xs (subst (λ (n : ℕ). n < 256) top-is byte))
             ∙ ap (λ (n : ℕ). positions (L2 xs) ++ drop n order) (sym long);
       }
 

@@ -1,14 +1,14 @@
 -- What is read off a list of levels from its front on: the highest, the lowest odd, and how long the first stretch is.
 -- Assumes nothing.
-use Prim.Native.Nat.{ℕ, _+_, _≤_, _<_, max, min}
+use Prim.Native.Nat.{ℕ, _+_, _-_, _*_, _%_, _≤_, _<_, max, min}
 use native.Mathlib.Omega.{arith}
 use mathlib.Core.Path.{_≡_, refl, sym, ap, _∙_}
 use mathlib.Core.Bool.{Bool, true, false}
 use mathlib.Core.List.{List, [], _∷_}
 use lib.ListN.{length, getD, drop, drop-of-length-le}
-use borrow.Author.Tests.{le-leb, lt-leb}
+use borrow.Author.Tests.{le-leb, lt-leb, eqb-true, eqb-false}
 use Rattle.rules.specs.Choice.{if_then_else_, isOdd}
-use Rattle.rules.specs.Line.{highest, lowestOdd}
+use Rattle.rules.specs.Line.{Item, highest, lowestOdd}
 use Rattle.rules.proofs.Lists.{drop-next}
 use Rattle.line.specs.Passes.{atLevels, span}
 
@@ -41,19 +41,30 @@ min-if : (b : Bool) (a l low low′ : ℕ) → low′ ≡ min a low → (if b th
 min-if true a l low low′ e = omega arith
 min-if false a l low low′ e = e
 
-low-min : (a none : ℕ) (ls : List ℕ) → lowOf (min a none) ls ≡ min a (lowOf none ls)
+pub low-min : (a none : ℕ) (xs : List Item) → lowestOdd (min a none) xs ≡ min a (lowestOdd none xs)
 unfolding lowestOdd
 low-min a none [] = refl
-low-min a none (l ∷ ls) = min-if (isOdd l) a l (lowOf none ls) (lowOf (min a none) ls) (low-min a none ls)
+low-min a none (x ∷ xs) = min-if (isOdd (x .level)) a (x .level) (lowestOdd none xs) (lowestOdd (min a none) xs) (low-min a none xs)
 
-low-if : (b : Bool) (l low : ℕ) (rest : List ℕ) → lowOf (if b then min l low else low) rest ≡ (if b then min l (lowOf low rest) else lowOf low rest)
-low-if true l low rest = low-min l low rest
-low-if false l low rest = refl
+-- an odd level counts as itself and an even one as 255, which is no lower than any byte
+low-if : (b : Bool) (l low : ℕ) (rest : List ℕ) → low < 256 → lowOf (min low (if b then l else 255)) rest ≡ (if b then min l (lowOf low rest) else lowOf low rest)
+low-if true l low rest h = let e : min low l ≡ min l low = omega arith in ap (λ (n : ℕ). lowOf n rest) e ∙ low-min l low (atLevels rest)
+low-if false l low rest h = let e : min low 255 ≡ low = omega arith in ap (λ (n : ℕ). lowOf n rest) e
 
-pub lowOf-next : (low l read low′ : ℕ) → low′ ≡ (if isOdd read then min read low else low) → read ≡ l → (rest : List ℕ) → lowOf low′ rest ≡ lowOf low (l ∷ rest)
+-- that count by numbers alone
+count-if : (b : Bool) (l r : ℕ) → l < 256 → isOdd l ≡ b → r ≡ max l ((1 - l % 2) * 255) → r ≡ (if b then l else 255)
+count-if true l r h e m = let odd : l % 2 ≡ 1 = eqb-true (l % 2) 1 e in omega arith
+count-if false l r h e m =
+    let no-one : ¬ (l % 2 ≡ 1) = eqb-false (l % 2) 1 e in
+    omega arith
+
+pub counted : (l r : ℕ) → l < 256 → r ≡ max l ((1 - l % 2) * 255) → r ≡ (if isOdd l then l else 255)
+counted l r h m = count-if (isOdd l) l r h refl m
+
+pub lowOf-next : (low l read counted low′ : ℕ) → low < 256 → low′ ≡ min low counted → counted ≡ (if isOdd read then read else 255) → read ≡ l → (rest : List ℕ) → lowOf low′ rest ≡ lowOf low (l ∷ rest)
 unfolding lowestOdd
-lowOf-next low l read low′ e r rest =
-    ap (λ (n : ℕ). lowOf n rest) (e ∙ ap (λ (n : ℕ). if isOdd n then min n low else low) r) ∙ low-if (isOdd l) l low rest
+lowOf-next low l read counted low′ h e k r rest =
+    ap (λ (n : ℕ). lowOf n rest) (e ∙ ap (min low) (k ∙ ap (λ (n : ℕ). if isOdd n then n else 255) r)) ∙ low-if (isOdd l) l low rest h
 
 pub lowOf-none : (low : ℕ) → lowOf low [] ≡ low
 unfolding lowestOdd

@@ -142,52 +142,46 @@ fn gather(classes: &[u8], from: Position, levels: &mut [u8], order: &mut [u16]) 
     k
 }
 
-// Levels are compared as wider numbers, so that one above the highest fits too.
-fn wide(level: u8) -> usize
-    ensures { λ r. ⌜ r ≡ level ⌝ }
-{
-    level as usize
-}
-
-fn higher(a: usize, b: usize) -> usize
+fn higher(a: u8, b: u8) -> u8
     ensures { λ r. ⌜ r ≡ max a b ⌝ }
 {
     if a < b { b } else { a }
 }
 
-fn highest_level(levels: &[u8]) -> usize
-    ensures { λ r. ⌜ r ≡ highest (atLevels (now (levels .entry))) ⌝ }
-    ensures { λ r. ⌜ r < 256 ⌝ }
+fn lower(a: u8, b: u8) -> u8
+    ensures { λ r. ⌜ r ≡ min a b ⌝ }
 {
-    let mut top = 0;
+    if a < b { a } else { b }
+}
+
+// Both loops over the levels look at every place and stay with bytes, so that many places are read at once.
+fn highest_level(levels: &[u8]) -> u8
+    ensures { λ r. ⌜ r ≡ highest (atLevels (now (levels .entry))) ⌝ }
+{
+    let mut top: u8 = 0;
     let mut i = 0;
     while i < levels.len() {
-        top = higher(top, wide(level_of(levels, Place(i))));
+        top = higher(top, level_of(levels, Place(i)));
         i += 1;
     }
     top
 }
 
-fn lower_odd(low: usize, level: usize) -> usize
-    ensures { λ r. ⌜ r ≡ (if isOdd level then min level low else low) ⌝ }
+// An odd level is itself and an even one counts as 255, by numbers alone: no branch.
+fn odd_or_highest(level: u8) -> u8
+    ensures { λ r. ⌜ r ≡ (if isOdd level then level else 255) ⌝ }
 {
-    if level % 2 == 1 {
-        if level < low {
-            return level;
-        }
-        return low;
-    }
-    low
+    higher(level, (1 - level % 2) * 255)
 }
 
-// The lowest odd level, or `none` where there is none.
-fn lowest_odd_level(levels: &[u8], none: usize) -> usize
-    ensures { λ r. ⌜ r ≡ lowestOdd none (atLevels (now (levels .entry))) ⌝ }
+// The lowest odd level, or 255 where there is none: then the highest is even, so below 255, and no pass is made.
+fn lowest_odd_level(levels: &[u8]) -> u8
+    ensures { λ r. ⌜ r ≡ lowestOdd 255 (atLevels (now (levels .entry))) ⌝ }
 {
-    let mut low = none;
+    let mut low: u8 = 255;
     let mut i = 0;
     while i < levels.len() {
-        low = lower_odd(low, wide(level_of(levels, Place(i))));
+        low = lower(low, odd_or_highest(level_of(levels, Place(i))));
         i += 1;
     }
     low
@@ -228,13 +222,13 @@ fn reverse(order: &mut [u16], from: Place, to: Place)
 }
 
 // The first place from `from` on that is below the level, or the end.
-fn stretch_end(levels: &[u8], from: Place, level: usize) -> Place
+fn stretch_end(levels: &[u8], from: Place, level: u8) -> Place
     requires { ⌜ from .0 ≤ length (now levels) ⌝ }
     ensures { λ r. ⌜ r .0 ≡ from .0 + span level (drop (from .0) (now (levels .entry))) ⌝ }
 {
     let mut i = from.0;
     while i < levels.len() {
-        if wide(level_of(levels, Place(i))) < level {
+        if level_of(levels, Place(i)) < level {
             return Place(i);
         }
         i += 1;
@@ -243,7 +237,7 @@ fn stretch_end(levels: &[u8], from: Place, level: usize) -> Place
 }
 
 // What one pass does: every longest stretch at the level or above is turned round.
-fn reverse_stretches(level: usize, levels: &[u8], order: &mut [u16])
+fn reverse_stretches(level: u8, levels: &[u8], order: &mut [u16])
     requires { ⌜ length (now levels) ≤ length (now order) ⌝ }
     ensures { λ r. ⌜ now (order .exit) ≡ passBy level [] (now (levels .entry)) (now (order .entry)) ⌝ }
 {
@@ -256,7 +250,7 @@ fn reverse_stretches(level: usize, levels: &[u8], order: &mut [u16])
 }
 
 // L2: one reversal pass, which calls the next with the level one lower.
-fn reversal_pass(level: usize, lowest: usize, levels: &[u8], order: &mut [u16])
+fn reversal_pass(level: u8, lowest: u8, levels: &[u8], order: &mut [u16])
     requires { ⌜ length (now levels) ≤ length (now order) ⌝ }
     ensures { λ r. ⌜ now (order .exit) ≡ passesBy level lowest (now (levels .entry)) (now (order .entry)) ⌝ }
 {
@@ -275,22 +269,26 @@ fn order_with(
     classes: &[u8],
     levels: &[u8],
     base: u8,
-    from: Position,
+    from: usize,
     work: &mut [u8],
     order: &mut [u16],
 ) -> usize
     requires { ⌜ length (now levels) ≡ length (now classes) ⌝ }
     requires { ⌜ length (now classes) ≤ length (now work) ⌝ }
     requires { ⌜ length (now classes) ≤ length (now order) ⌝ }
-    requires { ⌜ from .0 + length (now classes) ≤ 65536 ⌝ }
-    ensures { λ r. ⌜ Ordered (positions (L2 (lineItems base (from .0) (now (classes .entry)) (now (levels .entry))))) (now (order .entry)) r (now (order .exit)) ⌝ }
-    ensures { λ r. ⌜ now (work .exit) ≡ over (levelsOf (lineItems base (from .0) (now (classes .entry)) (now (levels .entry)))) (over (L1 base (now (classes .entry)) (now (levels .entry))) (now (work .entry))) ⌝ }
+    requires { ⌜ from + length (now classes) ≤ 65536 ⌝ }
+    ensures { λ r. ⌜ Ordered (positions (L2 (lineItems base from (now (classes .entry)) (now (levels .entry))))) (now (order .entry)) r (now (order .exit)) ⌝ }
+    ensures { λ r. ⌜ now (work .exit) ≡ over (levelsOf (lineItems base from (now (classes .entry)) (now (levels .entry)))) (over (L1 base (now (classes .entry)) (now (levels .entry))) (now (work .entry))) ⌝ }
 {
     reset(classes, levels, base, work);
-    let count = gather(classes, from, work, order);
+    let count = gather(classes, Position(from), work, order);
     let kept = &work[..count];
     let top = highest_level(kept);
-    let lowest = lowest_odd_level(kept, top + 1);
+    let lowest = lowest_odd_level(kept);
+    // Without an odd level memory order stands.
+    if top < lowest {
+        return count;
+    }
     reversal_pass(top, lowest, kept, order);
     count
 }
@@ -314,13 +312,12 @@ pub fn order_line(
 {
     let line = &classes[from..to];
     let own = &levels[from..to];
-    let start = Position(from);
     if to - from <= 64 {
         let mut short = [0u8; 64];
-        return order_with(line, own, base, start, &mut short, order);
+        return order_with(line, own, base, from, &mut short, order);
     }
     let mut long = [0u8; 4096];
-    order_with(line, own, base, start, &mut long, order)
+    order_with(line, own, base, from, &mut long, order)
 }
 
 // Where a line ends, the lines being counted from 0.

@@ -1,6 +1,6 @@
 -- `line::lowest_odd_level` meets its contract. The invariant: the lowest odd level of what is left, or else what is found, is that of the whole. The measure is what is left.
 -- Assumes nothing.
-use Prim.Native.Nat.{_-_, _≤_}
+use Prim.Native.Nat.{_-_, _≤_, _<_}
 use mathlib.Core.Path.{_≡_, refl, sym, _∙_}
 use lib.ListN.{length, drop}
 use Rattle.line.proofs.ScanLaws.{scan-next, scan-ended, lowOf, lowOf-next, lowOf-none}
@@ -9,22 +9,22 @@ use Rattle.line.proofs.lowest_odd_level.Statement.{statement}
 use Rattle.line.proofs.lowest_odd_level.Tie as tie
 
 abbrev Inv-loop : tie.InvT-loop
-Inv-loop levels none low₀ i₀ low i = (i ≤ length levels) × (lowOf low (drop i levels) ≡ lowOf none levels)
+Inv-loop levels low₀ i₀ low i = (i ≤ length levels) × (lowOf low (drop i levels) ≡ lowOf 255 levels) × (low < 256)
 
 abbrev μ-loop : tie.MeasureT-loop
-μ-loop levels none low₀ i₀ low i = length levels - i
+μ-loop levels low₀ i₀ low i = length levels - i
 
 loop-holds : tie.Need-loop-holds Inv-loop μ-loop
-loop-holds c = (search needs, refl)
+loop-holds c = (search needs, refl, search needs)
 
 level-of-requires : tie.Need-level-of-requires Inv-loop μ-loop
 level-of-requires c κs = search needs
 
-wide-requires : tie.Need-wide-requires Inv-loop μ-loop
-wide-requires c κs = search needs
+odd-or-highest-requires : tie.Need-odd-or-highest-requires Inv-loop μ-loop
+odd-or-highest-requires c κs = search needs
 
-lower-odd-requires : tie.Need-lower-odd-requires Inv-loop μ-loop
-lower-odd-requires c κs = search needs
+lower-requires : tie.Need-lower-requires Inv-loop μ-loop
+lower-requires c κs = search needs
 
 add-i : tie.Need-add-i Inv-loop μ-loop
 add-i c = search needs
@@ -36,8 +36,9 @@ loop-again : tie.Need-loop-again Inv-loop μ-loop
 loop-again c = (
   search needs,
   scan-next lowOf _ _ _ _ _
-      (lowOf-next _ _ _ _ (c .lower-odd .ensures) (c .before .wide .ensures ∙ c .before .before .level-of .ensures))
+      (lowOf-next _ _ _ _ _ (c .before .before .before .before .loop .inv .2) (c .lower .ensures) (c .before .odd-or-highest .ensures) (c .before .before .level-of .ensures))
       (c .before .before .before .loop-test .taken) (c .before .before .before .before .loop .inv .1),
+  search needs,
 )
 
 returns : tie.Need-returns Inv-loop μ-loop
@@ -51,8 +52,8 @@ lowest-odd-level-spec =
     μ-loop
     loop-holds
     level-of-requires
-    wide-requires
-    lower-odd-requires
+    odd-or-highest-requires
+    lower-requires
     add-i
     loop-less
     loop-again

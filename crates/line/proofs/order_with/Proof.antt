@@ -1,9 +1,11 @@
--- `line::order_with` meets its contract: what the reset, the gathering, the two bounds and the passes leave in turn is the order of the line.
+-- `line::order_with` meets its contract: what the reset, the gathering, the two bounds and the passes leave in turn is the order of the line; where no odd
+-- level is reached the passes are none.
 -- Assumes nothing.
 use Prim.Native.Nat.{_≤_}
 use mathlib.Core.Path.{sym}
 use lib.ListN.{length}
 use lib.Seq.{length-take-le}
+use Rattle.line.proofs.PassLaws.{none-below}
 use Rattle.line.proofs.LineLaws.{count-within, line-ordered, work-left}
 use borrow.Author.Needs.{needs}
 use Rattle.line.proofs.order_with.Statement.{statement}
@@ -21,7 +23,7 @@ count-kept c =
     let r = c .before .before .before .before .before in
     let start = r .before .before .before .before .before .before in
     let args = start .args in
-    count-within (args .base) (args .from .0) (args .classes .now) (args .levels .now) (args .work .now) _ _ _ _ _ (start .pre .0) (r .reset .ensures) (c .gather .ensures)
+    count-within (args .base) (args .from) (args .classes .now) (args .levels .now) (args .work .now) _ _ _ _ _ (start .pre .0) (r .reset .ensures) (c .gather .ensures)
 
 kept-within : (c : tie.After-gather) → c .gather .result ≤ length (c .gather .last .1 .1 .0)
 kept-within c = let n = count-kept c in search needs
@@ -35,18 +37,8 @@ slice-aggregate-kept c = sym (length-take-le _ _ (kept-within (c .before .before
 highest-level-requires : tie.Need-highest-level-requires
 highest-level-requires c κs = search needs
 
-add-lowest-odd-level : tie.Need-add-lowest-odd-level
-add-lowest-odd-level c = search needs
-
 lowest-odd-level-requires : tie.Need-lowest-odd-level-requires
 lowest-odd-level-requires c κs = search needs
-
-reversal-pass-requires : tie.Need-reversal-pass-requires
-reversal-pass-requires c κs =
-    let gathered = c .before .before .before .before .before .before .before .before in
-    let n = count-kept gathered in
-    let e = length-take-le (gathered .gather .result) (gathered .gather .last .1 .1 .0) (kept-within gathered) in
-    search needs
 
 same-length : tie.Need-same-length
 same-length c = search needs
@@ -56,15 +48,41 @@ same-length-2 c = search needs
 
 returns : tie.Need-returns
 returns c =
-    let passed = c .before .before in
-    let highest = passed .before .before .before in
+    let highest = c .before .before in
     let g = highest .before .before .before .before .before .before in
     let r = g .before .before .before .before .before in
     let start = r .before .before .before .before .before .before in
     let args = start .args in (
-      line-ordered (args .base) (args .from .0) (args .classes .now) (args .levels .now) (args .work .now) _ _ _ _ _ (start .pre .0) (r .reset .ensures) (g .gather .ensures)
-          _ _ _ (highest .highest-level .ensures .0) (passed .before .before .lowest-odd-level .ensures) (passed .reversal-pass .ensures),
-      work-left (args .base) (args .from .0) (args .classes .now) (args .levels .now) (args .work .now) _ _ _ _ _ (start .pre .0) (r .reset .ensures) (g .gather .ensures),
+      line-ordered (args .base) (args .from) (args .classes .now) (args .levels .now) (args .work .now) _ _ _ _ _ (start .pre .0) (r .reset .ensures) (g .gather .ensures)
+          _ _ _ (search needs) (highest .highest-level .ensures) (c .before .lowest-odd-level .ensures) (none-below _ _ _ _ (c .if1 .taken)),
+      work-left (args .base) (args .from) (args .classes .now) (args .levels .now) (args .work .now) _ _ _ _ _ (start .pre .0) (r .reset .ensures) (g .gather .ensures),
+    )
+
+reversal-pass-requires : tie.Need-reversal-pass-requires
+reversal-pass-requires c κs =
+    let gathered = c .before .before .before .before .before .before .before .before .before in
+    let n = count-kept gathered in
+    let e = length-take-le (gathered .gather .result) (gathered .gather .last .1 .1 .0) (kept-within gathered) in
+    search needs
+
+same-length-3 : tie.Need-same-length-3
+same-length-3 c = search needs
+
+same-length-4 : tie.Need-same-length-4
+same-length-4 c = search needs
+
+returns-2 : tie.Need-returns-2
+returns-2 c =
+    let passed = c .before .before in
+    let lowest = passed .before .before .before in
+    let highest = lowest .before in
+    let g = highest .before .before .before .before .before .before in
+    let r = g .before .before .before .before .before in
+    let start = r .before .before .before .before .before .before in
+    let args = start .args in (
+      line-ordered (args .base) (args .from) (args .classes .now) (args .levels .now) (args .work .now) _ _ _ _ _ (start .pre .0) (r .reset .ensures) (g .gather .ensures)
+          _ _ _ (search needs) (highest .highest-level .ensures) (lowest .lowest-odd-level .ensures) (passed .reversal-pass .ensures),
+      work-left (args .base) (args .from) (args .classes .now) (args .levels .now) (args .work .now) _ _ _ _ _ (start .pre .0) (r .reset .ensures) (g .gather .ensures),
     )
 
 pub order-with-spec : {M : Type 1} → statement M
@@ -76,9 +94,11 @@ order-with-spec =
     slice-reshare-prefix-kept
     slice-aggregate-kept
     highest-level-requires
-    add-lowest-odd-level
     lowest-odd-level-requires
-    reversal-pass-requires
     same-length
     same-length-2
-    returns)
+    returns
+    reversal-pass-requires
+    same-length-3
+    same-length-4
+    returns-2)

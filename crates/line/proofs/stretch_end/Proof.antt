@@ -21,11 +21,8 @@ loop-holds c = (search needs, refl)
 level-of-requires : tie.Need-level-of-requires Inv-loop μ-loop
 level-of-requires c κs = search needs
 
-wide-requires : tie.Need-wide-requires Inv-loop μ-loop
-wide-requires c κs = search needs
-
 returns : tie.Need-returns Inv-loop μ-loop
-returns c = sym (span-stops _ _ _ (c .before .before .before .loop-test .taken) (search needs)) ∙ c .before .before .before .before .loop .inv .1
+returns c = sym (span-stops _ _ _ (c .before .before .loop-test .taken) (search needs)) ∙ c .before .before .before .loop .inv .1
 
 add-i : tie.Need-add-i Inv-loop μ-loop
 add-i c = search needs
@@ -34,7 +31,7 @@ loop-less : tie.Need-loop-less Inv-loop μ-loop
 loop-less c = search needs
 
 loop-again : tie.Need-loop-again Inv-loop μ-loop
-loop-again c = (search needs, sym (span-goes-on _ _ _ (c .before .before .before .loop-test .taken) (search needs)) ∙ c .before .before .before .before .loop .inv .1)
+loop-again c = (search needs, sym (span-goes-on _ _ _ (c .before .before .loop-test .taken) (search needs)) ∙ c .before .before .before .loop .inv .1)
 
 returns-2 : tie.Need-returns-2 Inv-loop μ-loop
 returns-2 c = sym (span-ended _ _ _ (c .loop-test .left)) ∙ c .before .loop .inv .1
@@ -47,7 +44,6 @@ stretch-end-spec =
     μ-loop
     loop-holds
     level-of-requires
-    wide-requires
     returns
     add-i
     loop-less
