@@ -1,4 +1,4 @@
--- One pass, stretch by stretch: the first stretch turned round, the place behind it, and the pass over what is left.
+-- One pass, stretch by stretch: what is below the level, the stretch behind it turned round, and the pass over what is left.
 -- Assumes nothing.
 use Prim.Native.Nat.{ℕ, zero, suc, _+_, _-_, _≤_, _<_}
 use native.Mathlib.Nat.{zero-add}
@@ -7,13 +7,14 @@ use mathlib.Core.Path.{_≡_, refl, sym, ap, subst, _∙_}
 use mathlib.Core.Logic.{_⊎_, inl, inr}
 use mathlib.Core.Bool.{Bool, true, false}
 use mathlib.Core.List.{List, [], _∷_, _++_, reverse, reverseAux}
-use lib.Dec.{leb}
-use borrow.Author.Tests.{le-leb, lt-leb}
+use lib.Dec.{leb, ltb}
+use borrow.Author.Tests.{le-leb, lt-leb, ltb-true, ltb-false}
 use lib.ListN.{length, getD, take, drop, length-append, length-drop, length-reverse, drop-of-length-le, take-append-drop, List·getD-append}
 use lib.Seq.{drop-drop, getD-drop, getD-take, getD-append-add, length-take-le, ext-getD}
 use Rattle.rules.specs.Choice.{if_then_else_}
-use Rattle.rules.proofs.Lists.{le-or-lt}
-use Rattle.line.specs.Passes.{span, passBy, passesBy, Turned}
+use Rattle.rules.proofs.Lists.{le-or-lt, drop-next}
+use Rattle.rules.proofs.Passes.{span, span-end}
+use Rattle.line.specs.Passes.{below, passBy, passesBy, Turned}
 use Rattle.rules.proofs.Filling.{Filled, filled-stays, filled-part}
 
 -- a list reversed, by index
@@ -69,64 +70,103 @@ module _ (xs ys : List ℕ) (i s : ℕ) (room : i + s ≤ length xs) (t : Turned
       (length-drop (i + s) ys ∙ ap (λ (n : ℕ). n - (i + s)) (t .long) ∙ sym (length-drop (i + s) xs))
       (λ p h. getD-drop (i + s) ys p 0 ∙ t .past (i + s + p) (omega arith) ∙ sym (getD-drop (i + s) xs p 0))
 
--- what stands behind the first stretch of a pass, with its length counted beforehand
-abbrev afterStretch : ℕ → List ℕ → List ℕ → ℕ → List ℕ
-afterStretch level ls ps s = take 1 (drop s ps) ++ passBy level [] (drop (suc s) ls) (drop (suc s) ps)
+-- the first stretch joins the one under way, and the pass goes on where it ends
+stretch-if : (b : Bool) (level l p : ℕ) (stretch ls ps : List ℕ) (s : ℕ) → leb level l ≡ b → passBy level (p ∷ stretch) ls ps ≡ reverseAux (take s ps) (p ∷ stretch) ++ passBy level [] (drop s ls) (drop s ps) → (if b then passBy level (p ∷ stretch) ls ps else stretch ++ (p ∷ passBy level [] ls ps)) ≡ reverseAux (take (if b then suc s else 0) (p ∷ ps)) stretch ++ passBy level [] (drop (if b then suc s else 0) (l ∷ ls)) (drop (if b then suc s else 0) (p ∷ ps))
+unfolding passBy
+stretch-if true level l p stretch ls ps s e ih = ih
+stretch-if false level l p stretch ls ps s e ih = simp e
 
-stretch-if : (b : Bool) (level l p : ℕ) (stretch ls ps : List ℕ) (s : ℕ) → passBy level (p ∷ stretch) ls ps ≡ reverseAux (take s ps) (p ∷ stretch) ++ afterStretch level ls ps s → (if b then passBy level (p ∷ stretch) ls ps else stretch ++ (p ∷ passBy level [] ls ps)) ≡ reverseAux (take (if b then suc s else 0) (p ∷ ps)) stretch ++ afterStretch level (l ∷ ls) (p ∷ ps) (if b then suc s else 0)
-stretch-if true level l p stretch ls ps s ih = ih
-stretch-if false level l p stretch ls ps s ih = refl
-
--- the first stretch joins the one under way
-first-stretch : (level : ℕ) (stretch ls ps : List ℕ) → length ls ≤ length ps → passBy level stretch ls ps ≡ reverseAux (take (span level ls) ps) stretch ++ afterStretch level ls ps (span level ls)
+first-stretch : (level : ℕ) (stretch ls ps : List ℕ) → length ls ≤ length ps → passBy level stretch ls ps ≡ reverseAux (take (span (leb level) ls) ps) stretch ++ passBy level [] (drop (span (leb level) ls) ls) (drop (span (leb level) ls) ps)
 unfolding passBy span
-first-stretch level stretch [] ps h = ap (λ (l : List ℕ). stretch ++ l) (sym (take-append-drop 1 ps))
+first-stretch level stretch [] ps h = refl
 first-stretch level stretch (l ∷ ls) [] h = absurd (omega arith)
 first-stretch level stretch (l ∷ ls) (p ∷ ps) h =
-    stretch-if (leb level l) level l p stretch ls ps (span level ls) (first-stretch level (p ∷ stretch) ls ps (omega arith))
+    stretch-if (leb level l) level l p stretch ls ps (span (leb level) ls) refl (first-stretch level (p ∷ stretch) ls ps (omega arith))
 
-span-if : (b : Bool) (s n : ℕ) → s ≤ n → (if b then suc s else 0) ≤ suc n
-span-if true s n h = omega arith
-span-if false s n h = omega arith
+-- what is below the level stays, and the pass goes on behind it
+skip-if : (b : Bool) (level l p : ℕ) (ls ps : List ℕ) (n : ℕ) → ltb l level ≡ b → passBy level [] ls ps ≡ take n ps ++ passBy level [] (drop n ls) (drop n ps) → passBy level [] (l ∷ ls) (p ∷ ps) ≡ take (if b then suc n else 0) (p ∷ ps) ++ passBy level [] (drop (if b then suc n else 0) (l ∷ ls)) (drop (if b then suc n else 0) (p ∷ ps))
+unfolding passBy
+skip-if true level l p ls ps n e ih =
+    let stays : leb level l ≡ false = lt-leb level l (ltb-true l level e) in
+    let here : passBy level [] (l ∷ ls) (p ∷ ps) ≡ p ∷ passBy level [] ls ps = simp stays in
+    here ∙ ap (λ (r : List ℕ). p ∷ r) ih
+skip-if false level l p ls ps n e ih = refl
 
-span-within : (level : ℕ) (ls : List ℕ) → span level ls ≤ length ls
+skipped : (level : ℕ) (ls ps : List ℕ) → length ls ≤ length ps → passBy level [] ls ps ≡ take (span (below level) ls) ps ++ passBy level [] (drop (span (below level) ls) ls) (drop (span (below level) ls) ps)
 unfolding span
-span-within level [] = omega arith
-span-within level (l ∷ ls) = span-if (leb level l) (span level ls) (length ls) (span-within level ls)
+skipped level [] ps h = refl
+skipped level (l ∷ ls) [] h = absurd (omega arith)
+skipped level (l ∷ ls) (p ∷ ps) h = skip-if (ltb l level) level l p ls ps (span (below level) ls) refl (skipped level ls ps (omega arith))
 
--- a stretch ends within the levels
-pub stretch-within : (level : ℕ) (ls : List ℕ) (i e : ℕ) → i ≤ length ls → e ≡ i + span level (drop i ls) → (i ≤ e) × (e ≤ length ls)
-stretch-within level ls i e h at =
-    let s : span level (drop i ls) ≤ length ls - i = subst (λ (n : ℕ). span level (drop i ls) ≤ n) (length-drop i ls) (span-within level (drop i ls)) in
-    (omega arith, omega arith)
+-- a place is below the level or begins a stretch
+further-if : (b : Bool) (level l : ℕ) (ls : List ℕ) (n : ℕ) → ltb l level ≡ b → 0 < (if b then suc n else 0) + span (leb level) (drop (if b then suc n else 0) (l ∷ ls))
+unfolding span
+further-if true level l ls n e = omega arith
+further-if false level l ls n e = let holds : leb level l ≡ true = le-leb level l (ltb-false l level e) in simp holds (omega arith)
+
+further : (level l : ℕ) (ls : List ℕ) → 0 < span (below level) (l ∷ ls) + span (leb level) (drop (span (below level) (l ∷ ls)) (l ∷ ls))
+unfolding span
+further level l ls = further-if (ltb l level) level l ls (span (below level) ls) refl
+
+-- where a stretch begins and ends that is looked for from i on: within the levels, and its end behind i
+module _ (level : ℕ) (ls : List ℕ) (i s : ℕ) (h : i < length ls) (begins : s ≡ i + span (below level) (drop i ls)) where
+  pub starts : (i ≤ s) × (s ≤ length ls)
+  starts = span-end (below level) ls i s (omega arith) begins
+
+  pub ends : (e : ℕ) → e ≡ s + span (leb level) (drop s ls) → (s ≤ e) × (e ≤ length ls)
+  ends e at = span-end (leb level) ls s e (starts .1) at
+
+  pub goes-on : (e : ℕ) → e ≡ s + span (leb level) (drop s ls) → i < e
+  goes-on e at =
+      let n : ℕ = span (below level) (drop i ls) in
+      let there : drop s ls ≡ drop n (drop i ls) = ap (λ (k : ℕ). drop k ls) begins ∙ sym (drop-drop n i ls) in
+      let f : 0 < n + span (leb level) (drop n (drop i ls)) = subst (λ (l : List ℕ). 0 < span (below level) l + span (leb level) (drop (span (below level) l) l)) (sym (drop-next ls i h)) (further level (getD ls i 0) (drop (i + 1) ls)) in
+      let g : span (leb level) (drop s ls) ≡ span (leb level) (drop n (drop i ls)) = ap (span (leb level)) there in
+      omega arith
 
 -- what is still to come of a pass from place i on
 abbrev pub passFrom : ℕ → List ℕ → List ℕ → ℕ → List ℕ
 passFrom level ls ps i = passBy level [] (drop i ls) (drop i ps)
 
 module _ (level : ℕ) (ls order₀ : List ℕ) (room : length ls ≤ length order₀) where
-  stretch-of : (i : ℕ) → i ≤ length ls → passFrom level ls order₀ i ≡ reverse (take (span level (drop i ls)) (drop i order₀)) ++ (take 1 (drop (i + span level (drop i ls)) order₀) ++ passFrom level ls order₀ (i + span level (drop i ls) + 1))
-  stretch-of i h =
-      let s : ℕ = span level (drop i ls) in
-      let e : i + suc s ≡ i + s + 1 = omega arith in
-      let fits : length (drop i ls) ≤ length (drop i order₀) = simp length-drop (omega arith) in
-      first-stretch level [] (drop i ls) (drop i order₀) fits
-      ∙ (λ j. reverse (take s (drop i order₀)) ++ (take 1 (drop-drop s i order₀ j) ++ passBy level [] ((drop-drop (suc s) i ls ∙ ap (λ (n : ℕ). drop n ls) e) j) ((drop-drop (suc s) i order₀ ∙ ap (λ (n : ℕ). drop n order₀) e) j)))
+  fits : (i : ℕ) → length (drop i ls) ≤ length (drop i order₀)
+  fits i = simp length-drop (omega arith)
 
-  pub next : (order order′ : List ℕ) (i e : ℕ) → i < length ls → e ≡ i + span level (drop i ls) → Turned i e order order′ → Filled (passFrom level ls order₀ 0) order₀ order i (passFrom level ls order₀ i) → Filled (passFrom level ls order₀ 0) order₀ order′ (e + 1) (passFrom level ls order₀ (e + 1))
-  next order order′ i e h at t f =
-      let s : ℕ = span level (drop i ls) in
-      let w : (i ≤ i + s) × (i + s ≤ length ls) = stretch-within level ls i (i + s) (omega arith) refl in
+  passed-on : (i n : ℕ) → passBy level [] (drop n (drop i ls)) (drop n (drop i order₀)) ≡ passFrom level ls order₀ (i + n)
+  passed-on i n = λ j. passBy level [] (drop-drop n i ls j) (drop-drop n i order₀ j)
+
+  skip-of : (i : ℕ) → passFrom level ls order₀ i ≡ take (span (below level) (drop i ls)) (drop i order₀) ++ passFrom level ls order₀ (i + span (below level) (drop i ls))
+  skip-of i =
+      let n : ℕ = span (below level) (drop i ls) in
+      skipped level (drop i ls) (drop i order₀) (fits i) ∙ ap (λ (r : List ℕ). take n (drop i order₀) ++ r) (passed-on i n)
+
+  stretch-of : (i : ℕ) → passFrom level ls order₀ i ≡ reverse (take (span (leb level) (drop i ls)) (drop i order₀)) ++ passFrom level ls order₀ (i + span (leb level) (drop i ls))
+  stretch-of i =
+      let n : ℕ = span (leb level) (drop i ls) in
+      first-stretch level [] (drop i ls) (drop i order₀) (fits i) ∙ ap (λ (r : List ℕ). reverse (take n (drop i order₀)) ++ r) (passed-on i n)
+
+  -- the places before the stretch stay
+  at-start : (order : List ℕ) (i s : ℕ) → s ≡ i + span (below level) (drop i ls) → Filled (passFrom level ls order₀ 0) order₀ order i (passFrom level ls order₀ i) → Filled (passFrom level ls order₀ 0) order₀ order s (passFrom level ls order₀ s)
+  at-start order i s begins f =
+      let n : ℕ = span (below level) (drop i ls) in
+      subst (λ (k : ℕ). Filled (passFrom level ls order₀ 0) order₀ order k (passFrom level ls order₀ k)) (sym begins)
+      (filled-stays (passFrom level ls order₀ 0) order₀ order i n (passFrom level ls order₀ (i + n))
+      (subst (Filled (passFrom level ls order₀ 0) order₀ order i) (skip-of i) f))
+
+  -- and those of the stretch are turned round
+  pub next : (order order′ : List ℕ) (i s e : ℕ) → i < length ls → s ≡ i + span (below level) (drop i ls) → e ≡ s + span (leb level) (drop s ls) → Turned s e order order′ → Filled (passFrom level ls order₀ 0) order₀ order i (passFrom level ls order₀ i) → Filled (passFrom level ls order₀ 0) order₀ order′ e (passFrom level ls order₀ e)
+  next order order′ i s e h begins at t f =
+      let n : ℕ = span (leb level) (drop s ls) in
+      let w : (s ≤ e) × (e ≤ length ls) = ends level ls i s h begins e at in
       let ll : length order ≡ length order₀ = f .long in
-      let t′ : Turned i (i + s) order order′ = subst (λ (n : ℕ). Turned i n order order′) at t in
-      let turned : reverse (take s (drop i order)) ≡ reverse (take s (drop i order₀)) = ap (λ (l : List ℕ). reverse (take s l)) (f .beyond) in
-      subst (λ (n : ℕ). Filled (passFrom level ls order₀ 0) order₀ order′ (n + 1) (passFrom level ls order₀ (n + 1))) (sym at)
-      (filled-stays (passFrom level ls order₀ 0) order₀ order′ (i + s) (passFrom level ls order₀ (i + s + 1))
-      (filled-part (passFrom level ls order₀ 0) order₀ order i order′ (reverse (take s (drop i order₀)))
-      (take 1 (drop (i + s) order₀) ++ passFrom level ls order₀ (i + s + 1)) (i + s) (t .long)
-      (turned-take order order′ i s (omega arith) t′ ∙ ap (λ (l : List ℕ). take i order ++ l) turned)
-      (turned-drop order order′ i s (omega arith) t′) (omega arith)
-      (subst (Filled (passFrom level ls order₀ 0) order₀ order i) (stretch-of i (omega arith)) f)))
+      let t′ : Turned s (s + n) order order′ = subst (λ (k : ℕ). Turned s k order order′) at t in
+      let g : Filled (passFrom level ls order₀ 0) order₀ order s (passFrom level ls order₀ s) = at-start order i s begins f in
+      let turned : reverse (take n (drop s order)) ≡ reverse (take n (drop s order₀)) = ap (λ (l : List ℕ). reverse (take n l)) (g .beyond) in
+      subst (λ (k : ℕ). Filled (passFrom level ls order₀ 0) order₀ order′ k (passFrom level ls order₀ k)) (sym at)
+      (filled-part (passFrom level ls order₀ 0) order₀ order s order′ (reverse (take n (drop s order₀))) (passFrom level ls order₀ (s + n)) (s + n) (t .long)
+      (turned-take order order′ s n (omega arith) t′ ∙ ap (λ (l : List ℕ). take s order ++ l) turned)
+      (turned-drop order order′ s n (omega arith) t′) (omega arith)
+      (subst (Filled (passFrom level ls order₀ 0) order₀ order s) (stretch-of s) g))
 
   pub ended : (order : List ℕ) (i : ℕ) → length ls ≤ i → Filled (passFrom level ls order₀ 0) order₀ order i (passFrom level ls order₀ i) → order ≡ passBy level [] ls order₀
   unfolding passBy

@@ -1,4 +1,4 @@
--- What is read off a list of levels from its front on: the highest, the lowest odd, and how long the first stretch is.
+-- What is read off a list of levels from its front on: the highest and the lowest odd.
 -- Assumes nothing.
 use Prim.Native.Nat.{ℕ, _+_, _-_, _*_, _%_, _≤_, _<_, max, min}
 use native.Mathlib.Omega.{arith}
@@ -6,11 +6,11 @@ use mathlib.Core.Path.{_≡_, refl, sym, ap, _∙_}
 use mathlib.Core.Bool.{Bool, true, false}
 use mathlib.Core.List.{List, [], _∷_}
 use lib.ListN.{length, getD, drop, drop-of-length-le}
-use borrow.Author.Tests.{le-leb, lt-leb, eqb-true, eqb-false}
+use borrow.Author.Tests.{eqb-true, eqb-false}
 use Rattle.rules.specs.Choice.{if_then_else_, isOdd}
 use Rattle.rules.specs.Line.{Item, highest, lowestOdd}
 use Rattle.rules.proofs.Lists.{drop-next}
-use Rattle.line.specs.Passes.{atLevels, span}
+use Rattle.line.specs.Passes.{atLevels}
 
 -- one more element is taken into a total, which stays what it is of the whole
 pub scan-next : (total : ℕ → List ℕ → ℕ) (whole acc acc′ : ℕ) (xs : List ℕ) (i : ℕ) → ((rest : List ℕ) → total acc′ rest ≡ total acc (getD xs i 0 ∷ rest)) → i < length xs → total acc (drop i xs) ≡ whole → total acc′ (drop (i + 1) xs) ≡ whole
@@ -69,16 +69,3 @@ lowOf-next low l read counted low′ h e k r rest =
 pub lowOf-none : (low : ℕ) → lowOf low [] ≡ low
 unfolding lowestOdd
 lowOf-none low = refl
-
-module _ (level : ℕ) (ls : List ℕ) (i : ℕ) (h : i < length ls) where
-  pub span-stops : getD ls i 0 < level → i + span level (drop i ls) ≡ i
-  unfolding span
-  span-stops l = rw (drop-next ls i h) (simp (lt-leb level (getD ls i 0) l) (omega arith))
-
-  pub span-goes-on : level ≤ getD ls i 0 → i + span level (drop i ls) ≡ i + 1 + span level (drop (i + 1) ls)
-  unfolding span
-  span-goes-on l = rw (drop-next ls i h) (simp (le-leb level (getD ls i 0) l) (omega arith))
-
-pub span-ended : (level : ℕ) (ls : List ℕ) (i : ℕ) → length ls ≤ i → i + span level (drop i ls) ≡ i
-unfolding span
-span-ended level ls i h = rw (drop-of-length-le ls h) (omega arith)

@@ -1,8 +1,9 @@
 -- The passes of L2 as they are made: what stands in an order is moved, and the levels are read by place, as they were before any pass.
 use Prim.Native.Nat.{ℕ, zero, suc, _+_, _≤_, _<_}
 use mathlib.Core.Path.{_≡_}
+use mathlib.Core.Bool.{Bool}
 use mathlib.Core.List.{List, [], _∷_, _++_, map}
-use lib.Dec.{leb}
+use lib.Dec.{leb, ltb}
 use lib.ListN.{length, getD}
 use Rattle.rules.specs.Choice.{if_then_else_}
 use Rattle.rules.specs.Line.{Item}
@@ -11,10 +12,9 @@ use Rattle.rules.specs.Line.{Item}
 abbrev pub atLevels : List ℕ → List Item
 atLevels ls = map (λ (l : ℕ). record { position = 0; level = l }) ls
 
--- how many places at the front are at that level or above
-unfoldable pub span : ℕ → List ℕ → ℕ
-span level [] = 0
-span level (l ∷ ls) = if leb level l then suc (span level ls) else 0
+-- what a pass at that level leaves where it is
+abbrev pub below : ℕ → ℕ → Bool
+below level l = ltb l level
 
 -- one pass over the places with the given levels; all places past them stay. The stretch under way is held last first
 unfoldable pub passBy : ℕ → List ℕ → List ℕ → List ℕ → List ℕ

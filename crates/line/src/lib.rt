@@ -5,15 +5,17 @@ ghost use mathlib.Core.Path.{_≡_};
 ghost use mathlib.Core.Bool.{true, _||_, _&&_};
 ghost use Prim.Native.Nat.{_+_, _-_, _≤_, _<_, max, min};
 ghost use mathlib.Core.List.{[]};
+ghost use lib.Dec.{leb};
 ghost use lib.ListN.{length, getD, set, drop};
 ghost use Rattle.rules.specs.Choice.{if_then_else_, isOdd};
 ghost use Rattle.rules.specs.Classes.{isRemoved, isSeparator, isBlank};
 ghost use Rattle.rules.specs.Jobs.{over};
 ghost use Rattle.rules.specs.Line.{L1, L2, items, highest, lowestOdd, lineOrder, allOrders};
 ghost use Rattle.rules.specs.Refusals.{endsRiseTo};
+ghost use Rattle.rules.proofs.Passes.{span};
 ghost use Rattle.line.specs.Gathered.{Gathered, positions, levelsOf, lineItems};
 ghost use Rattle.line.specs.Ordered.{Ordered};
-ghost use Rattle.line.specs.Passes.{atLevels, span, passBy, passesBy, Turned};
+ghost use Rattle.line.specs.Passes.{atLevels, below, passBy, passesBy, Turned};
 
 // A position of the classes and levels, in memory order.
 pub struct Position(pub usize);
@@ -221,10 +223,25 @@ fn reverse(order: &mut [u16], from: Place, to: Place)
     }
 }
 
+// The first place from `from` on that is at the level or above, or the end. What is below costs one look a place.
+fn stretch_start(levels: &[u8], from: Place, level: u8) -> Place
+    requires { ⌜ from .0 ≤ length (now levels) ⌝ }
+    ensures { λ r. ⌜ r .0 ≡ from .0 + span (below level) (drop (from .0) (now (levels .entry))) ⌝ }
+{
+    let mut i = from.0;
+    while i < levels.len() {
+        if level <= level_of(levels, Place(i)) {
+            return Place(i);
+        }
+        i += 1;
+    }
+    Place(i)
+}
+
 // The first place from `from` on that is below the level, or the end.
 fn stretch_end(levels: &[u8], from: Place, level: u8) -> Place
     requires { ⌜ from .0 ≤ length (now levels) ⌝ }
-    ensures { λ r. ⌜ r .0 ≡ from .0 + span level (drop (from .0) (now (levels .entry))) ⌝ }
+    ensures { λ r. ⌜ r .0 ≡ from .0 + span (leb level) (drop (from .0) (now (levels .entry))) ⌝ }
 {
     let mut i = from.0;
     while i < levels.len() {
@@ -243,9 +260,10 @@ fn reverse_stretches(level: u8, levels: &[u8], order: &mut [u16])
 {
     let mut i = 0;
     while i < levels.len() {
-        let end = stretch_end(levels, Place(i), level);
-        reverse(order, Place(i), end);
-        i = end.0 + 1;
+        let start = stretch_start(levels, Place(i), level);
+        let end = stretch_end(levels, start, level);
+        reverse(order, start, end);
+        i = end.0;
     }
 }
 

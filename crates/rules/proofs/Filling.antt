@@ -41,13 +41,13 @@ module _ (whole out₀ out : List ℕ) (k : ℕ) where
         count,
       )
 
-  -- a place that already holds what is to stand there
-  pub filled-stays : (rest : List ℕ) → Filled whole out₀ out k (take 1 (drop k out₀) ++ rest) → Filled whole out₀ out (k + 1) rest
-  filled-stays rest f = record {
+  -- places that already hold what is to stand there
+  pub filled-stays : (n : ℕ) (rest : List ℕ) → Filled whole out₀ out k (take n (drop k out₀) ++ rest) → Filled whole out₀ out (k + n) rest
+  filled-stays n rest f = record {
     long = f .long;
-    written = ap (λ (l : List ℕ). l ++ rest) (take-add k 1 out ∙ ap (λ (l : List ℕ). take k out ++ take 1 l) (f .beyond))
-        ∙ append-assoc (take k out) (take 1 (drop k out₀)) rest ∙ f .written;
-    beyond = sym (drop-drop 1 k out) ∙ ap (drop 1) (f .beyond) ∙ drop-drop 1 k out₀;
+    written = ap (λ (l : List ℕ). l ++ rest) (take-add k n out ∙ ap (λ (l : List ℕ). take k out ++ take n l) (f .beyond))
+        ∙ append-assoc (take k out) (take n (drop k out₀)) rest ∙ f .written;
+    beyond = sym (drop-drop n k out) ∙ ap (drop n) (f .beyond) ∙ drop-drop n k out₀;
   }
 
   -- several places are written at once: up to k as it was, then the part, then what stood behind it

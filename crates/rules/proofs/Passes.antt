@@ -146,7 +146,7 @@ span-past test xs i h =
     omega arith
 
 -- a stretch ends within the list; one that begins at i, behind i
-span-end : (test : ℕ → Bool) (xs : List ℕ) (i e : ℕ) → i ≤ length xs → e ≡ i + span test (drop i xs) → (i ≤ e) × (e ≤ length xs)
+pub span-end : (test : ℕ → Bool) (xs : List ℕ) (i e : ℕ) → i ≤ length xs → e ≡ i + span test (drop i xs) → (i ≤ e) × (e ≤ length xs)
 span-end test xs i e h is =
     let w : span test (drop i xs) ≤ length xs - i = rw (length-drop i xs) at (span-within test (drop i xs)) in
     (omega arith, omega arith)

@@ -3,14 +3,15 @@
 use Prim.Native.Nat.{_+_, _-_, _≤_}
 use mathlib.Core.Path.{_≡_, refl, sym, _∙_}
 use lib.ListN.{length, drop}
-use Rattle.line.specs.Passes.{span}
-use Rattle.line.proofs.ScanLaws.{span-stops, span-goes-on, span-ended}
+use lib.Dec.{leb}
+use borrow.Author.Tests.{le-leb, lt-leb}
+use Rattle.rules.proofs.Passes.{span, span-further, span-there, span-past}
 use borrow.Author.Needs.{needs}
 use Rattle.line.proofs.stretch_end.Statement.{statement}
 use Rattle.line.proofs.stretch_end.Tie as tie
 
 abbrev Inv-loop : tie.InvT-loop
-Inv-loop levels level i₀ i = (i ≤ length levels) × (i + span level (drop i levels) ≡ i₀ + span level (drop i₀ levels))
+Inv-loop levels level i₀ i = (i ≤ length levels) × (i + span (leb level) (drop i levels) ≡ i₀ + span (leb level) (drop i₀ levels))
 
 abbrev μ-loop : tie.MeasureT-loop
 μ-loop levels level i₀ i = length levels - i
@@ -22,7 +23,9 @@ level-of-requires : tie.Need-level-of-requires Inv-loop μ-loop
 level-of-requires c κs = search needs
 
 returns : tie.Need-returns Inv-loop μ-loop
-returns c = sym (span-stops _ _ _ (c .before .before .loop-test .taken) (search needs)) ∙ c .before .before .before .loop .inv .1
+returns c =
+    let args = c .before .before .before .before .before .args in
+    sym (span-there (leb (args .level)) (args .levels .now) _ (c .before .before .loop-test .taken) (lt-leb (args .level) _ (search needs))) ∙ c .before .before .before .loop .inv .1
 
 add-i : tie.Need-add-i Inv-loop μ-loop
 add-i c = search needs
@@ -31,10 +34,12 @@ loop-less : tie.Need-loop-less Inv-loop μ-loop
 loop-less c = search needs
 
 loop-again : tie.Need-loop-again Inv-loop μ-loop
-loop-again c = (search needs, sym (span-goes-on _ _ _ (c .before .before .loop-test .taken) (search needs)) ∙ c .before .before .before .loop .inv .1)
+loop-again c =
+    let args = c .before .before .before .before .before .args in
+    (search needs, sym (span-further (leb (args .level)) (args .levels .now) _ (c .before .before .loop-test .taken) (le-leb (args .level) _ (search needs))) ∙ c .before .before .before .loop .inv .1)
 
 returns-2 : tie.Need-returns-2 Inv-loop μ-loop
-returns-2 c = sym (span-ended _ _ _ (c .loop-test .left)) ∙ c .before .loop .inv .1
+returns-2 c = sym (span-past (leb _) _ _ (c .loop-test .left)) ∙ c .before .loop .inv .1
 
 pub stretch-end-spec : {M : Type 1} → statement M
 stretch-end-spec =
