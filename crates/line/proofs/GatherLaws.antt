@@ -1,18 +1,21 @@
--- The items of a line, one position at a time, and the two buffers that are filled with them.
+-- The items of a line, one position at a time, and the two buffers that are filled with them; and all at once where
+-- nothing is removed.
 -- Assumes nothing.
-use Prim.Native.Nat.{ℕ, suc, _+_, _≤_, _<_}
+use Prim.Native.Nat.{ℕ, suc, _+_, _-_, _≤_, _<_}
 use native.Mathlib.Omega.{arith}
-use mathlib.Core.Path.{_≡_, sym, ap, subst, _∙_}
+use mathlib.Core.Path.{_≡_, refl, sym, ap, subst, _∙_}
 use mathlib.Core.Bool.{true, false}
-use mathlib.Core.List.{List, [], _∷_}
-use lib.ListN.{length, getD, drop, set, length-map}
-use lib.Seq.{drop-length}
+use mathlib.Core.List.{List, [], _∷_, _++_}
+use lib.ListN.{length, getD, take, drop, set, length-map, take-append-drop}
+use lib.Seq.{drop-length, length-take-le}
 use Rattle.rules.specs.Choice.{if_then_else_}
 use Rattle.rules.specs.Classes.{isRemoved}
+use Rattle.rules.specs.Jobs.{over}
 use Rattle.rules.specs.Line.{Item, items}
+use Rattle.rules.proofs.Any.{anyOf, none-first}
 use Rattle.rules.proofs.Lists.{drop-next}
-use Rattle.line.specs.Gathered.{Gathered, positions, levelsOf}
-use Rattle.rules.proofs.Filling.{Filled, filled-begun, filled-reads, filled-next, filled-ended}
+use Rattle.line.specs.Gathered.{Gathered, positions, levelsOf, upFrom}
+use Rattle.rules.proofs.Filling.{Filled, filled-begun, filled-reads, filled-next, filled-ended, filled-from, filled-more, filled-all}
 
 -- the item at a place of the line
 abbrev pub itemAt : ℕ → List ℕ → ℕ → Item
@@ -97,3 +100,65 @@ ended from cs ls₀ order₀ ls order i k lr or h g =
       packed = p .0;
       placed = q .0;
     })
+
+-- positions in a row, one place at a time
+module _ (from count : ℕ) (i : ℕ) where
+  up-next : i < count → upFrom (from + i) (count - i) ≡ (from + i) ∷ upFrom (from + (i + 1)) (count - (i + 1))
+  unfolding upFrom
+  up-next h =
+      let left : count - i ≡ suc (count - (i + 1)) = omega arith in
+      let further : suc (from + i) ≡ from + (i + 1) = omega arith in
+      ap (upFrom (from + i)) left ∙ ap (λ (n : ℕ). (from + i) ∷ upFrom n (count - (i + 1))) further
+
+  up-none : count ≤ i → upFrom (from + i) (count - i) ≡ []
+  unfolding upFrom
+  up-none h = let left : count - i ≡ 0 = omega arith in ap (upFrom (from + i)) left
+
+-- the places before i hold positions in a row
+abbrev pub Numbered : ℕ → ℕ → List ℕ → List ℕ → ℕ → Type 0
+Numbered from count order₀ order i = (i ≤ count) × Filled (upFrom from count) order₀ order i (upFrom (from + i) (count - i))
+
+pub number-begun : (from count : ℕ) (order : List ℕ) → Numbered from count order order 0
+number-begun from count order =
+    let start : from + 0 ≡ from = omega arith in
+    let all : count - 0 ≡ count = omega arith in
+    (omega arith, filled-from order (λ j. upFrom (start j) (all j)))
+
+pub number-next : (from count : ℕ) (order₀ order order′ : List ℕ) (i : ℕ) → count ≤ length order₀ → i < count → order′ ≡ set order i (from + i) → Numbered from count order₀ order i → Numbered from count order₀ order′ (i + 1)
+number-next from count order₀ order order′ i room h e n = (
+  omega arith,
+  subst (λ (l : List ℕ). Filled (upFrom from count) order₀ l (i + 1) (upFrom (from + (i + 1)) (count - (i + 1)))) (sym e)
+      (filled-more (up-next from count i h) (omega arith) (n .1)),
+)
+
+pub number-ended : (from count : ℕ) (order₀ order : List ℕ) (i : ℕ) → count ≤ length order₀ → count ≤ i → Numbered from count order₀ order i → order ≡ over (upFrom from count) order₀
+number-ended from count order₀ order i room h n = filled-all (n .1) (up-none from count i h) (omega (arith, n .0))
+
+-- where nothing is removed every position is kept, with its level
+all-positions : (at : ℕ) (cs ls : List ℕ) → anyOf isRemoved cs ≡ false → length cs ≤ length ls → positions (items at cs ls) ≡ upFrom at (length cs)
+unfolding items upFrom
+all-positions at [] ls none h = refl
+all-positions at (c ∷ cs) [] none h = absurd (omega arith)
+all-positions at (c ∷ cs) (l ∷ ls) none h =
+    let first = none-first isRemoved c cs none in
+    let rest : positions (items (suc at) cs ls) ≡ upFrom (suc at) (length cs) = all-positions (suc at) cs ls (first .1) (omega arith) in
+    simp (first .0) (ap (λ (r : List ℕ). at ∷ r) rest)
+
+all-levels : (at : ℕ) (cs ls : List ℕ) → anyOf isRemoved cs ≡ false → length cs ≤ length ls → levelsOf (items at cs ls) ≡ take (length cs) ls
+unfolding items
+all-levels at [] ls none h = refl
+all-levels at (c ∷ cs) [] none h = absurd (omega arith)
+all-levels at (c ∷ cs) (l ∷ ls) none h =
+    let first = none-first isRemoved c cs none in
+    let rest : levelsOf (items (suc at) cs ls) ≡ take (length cs) ls = all-levels (suc at) cs ls (first .1) (omega arith) in
+    simp (first .0) (ap (λ (r : List ℕ). l ∷ r) rest)
+
+pub all-gathered : (from : ℕ) (cs ls order order′ : List ℕ) → length cs ≤ length ls → anyOf isRemoved cs ≡ false → order′ ≡ over (upFrom from (length cs)) order → Gathered (items from cs ls) ls order (length cs) ls order′
+all-gathered from cs ls order order′ h none e =
+    let levels : levelsOf (items from cs ls) ≡ take (length cs) ls = all-levels from cs ls none h in
+    let long : length (take (length cs) ls) ≡ length cs = length-take-le (length cs) ls h in
+    record {
+      count = sym (sym (length-map (items from cs ls) (λ (x : Item). x .level)) ∙ ap length levels ∙ long);
+      packed = sym (ap (λ (l : List ℕ). over l ls) levels ∙ ap (λ (n : ℕ). take (length cs) ls ++ drop n ls) long ∙ take-append-drop (length cs) ls);
+      placed = e ∙ ap (λ (l : List ℕ). over l order) (sym (all-positions from cs ls none h));
+    }

@@ -13,7 +13,7 @@ ghost use Rattle.rules.specs.Jobs.{over};
 ghost use Rattle.rules.specs.Line.{L1, L2, items, highest, lowestOdd, lineOrder, allOrders};
 ghost use Rattle.rules.specs.Refusals.{endsRiseTo};
 ghost use Rattle.rules.proofs.Passes.{span};
-ghost use Rattle.line.specs.Gathered.{Gathered, positions, levelsOf, lineItems};
+ghost use Rattle.line.specs.Gathered.{Gathered, positions, levelsOf, upFrom, lineItems};
 ghost use Rattle.line.specs.Ordered.{Ordered};
 ghost use Rattle.line.specs.Passes.{atLevels, below, passBy, passesBy, Turned};
 
@@ -120,8 +120,8 @@ fn put(order: &mut [u16], at: Place, what: Position)
     order[i] = what.0 as u16;
 }
 
-// The kept positions of a line in memory order, to the first places, and their levels to the front.
-fn gather(classes: &[u8], from: Position, levels: &mut [u8], order: &mut [u16]) -> usize
+// One position at a time: a removed one is passed over.
+fn gather_kept(classes: &[u8], from: Position, levels: &mut [u8], order: &mut [u16]) -> usize
     requires { ⌜ length (now classes) ≤ length (now levels) ⌝ }
     requires { ⌜ length (now classes) ≤ length (now order) ⌝ }
     requires { ⌜ from .0 + length (now classes) ≤ 65536 ⌝ }
@@ -142,6 +142,35 @@ fn gather(classes: &[u8], from: Position, levels: &mut [u8], order: &mut [u16]) 
         }
     }
     k
+}
+
+// So many positions in a row, to the first places. A straight loop, so that many places are written at once.
+fn number_all(from: Position, count: usize, order: &mut [u16])
+    requires { ⌜ count ≤ length (now order) ⌝ }
+    requires { ⌜ from .0 + count ≤ 65536 ⌝ }
+    ensures { λ r. ⌜ now (order .exit) ≡ over (upFrom (from .0) count) (now (order .entry)) ⌝ }
+{
+    let start = from.0;
+    let mut i = 0;
+    while i < count {
+        put(order, Place(i), Position(start + i));
+        i += 1;
+    }
+}
+
+// The kept positions of a line in memory order, to the first places, and their levels to the front. Where nothing is
+// removed the levels stand at the front already.
+fn gather(classes: &[u8], from: Position, levels: &mut [u8], order: &mut [u16]) -> usize
+    requires { ⌜ length (now classes) ≤ length (now levels) ⌝ }
+    requires { ⌜ length (now classes) ≤ length (now order) ⌝ }
+    requires { ⌜ from .0 + length (now classes) ≤ 65536 ⌝ }
+    ensures { λ r. ⌜ Gathered (items (from .0) (now (classes .entry)) (now (levels .entry))) (now (levels .entry)) (now (order .entry)) r (now (levels .exit)) (now (order .exit)) ⌝ }
+{
+    if parts::any_removed(classes) {
+        return gather_kept(classes, from, levels, order);
+    }
+    number_all(from, classes.len(), order);
+    classes.len()
 }
 
 fn higher(a: u8, b: u8) -> u8
