@@ -1,5 +1,6 @@
 -- Laws that the proofs of this crate cite.
 pub mod ResetLaws
+pub mod TailLaws
 pub mod GatherLaws
 pub mod ScanLaws
 pub mod TurnLaws

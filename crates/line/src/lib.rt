@@ -4,17 +4,19 @@
 ghost use mathlib.Core.Path.{_≡_};
 ghost use mathlib.Core.Bool.{true, _||_, _&&_};
 ghost use Prim.Native.Nat.{_+_, _-_, _≤_, _<_, max, min};
-ghost use mathlib.Core.List.{[]};
+ghost use mathlib.Core.List.{[], _++_};
 ghost use lib.Dec.{leb};
-ghost use lib.ListN.{length, getD, set, drop};
+ghost use lib.ListN.{length, getD, set, take, drop};
 ghost use Rattle.rules.specs.Choice.{if_then_else_, isOdd};
 ghost use Rattle.rules.specs.Classes.{isRemoved, isSeparator, isBlank};
 ghost use Rattle.rules.specs.Jobs.{over};
 ghost use Rattle.rules.specs.Line.{L1, L2, items, highest, lowestOdd, lineOrder, allOrders};
 ghost use Rattle.rules.specs.Refusals.{endsRiseTo};
+ghost use Rattle.rules.proofs.Any.{anyOf};
 ghost use Rattle.rules.proofs.Passes.{span};
 ghost use Rattle.line.specs.Gathered.{Gathered, positions, levelsOf, upFrom, lineItems};
 ghost use Rattle.line.specs.Ordered.{Ordered};
+ghost use Rattle.line.specs.Tails.{inTail, Tail, tailLevels};
 ghost use Rattle.line.specs.Passes.{atLevels, below, passBy, passesBy, Turned};
 
 // A position of the classes and levels, in memory order.
@@ -78,7 +80,7 @@ fn blank_before(class: u8, ahead: bool) -> bool
 }
 
 // From the line's end to its start, so that each position is read once.
-pub(crate) fn reset(classes: &[u8], levels: &[u8], base: u8, out: &mut [u8])
+fn reset_from_end(classes: &[u8], levels: &[u8], base: u8, out: &mut [u8])
     requires { ⌜ length (now levels) ≡ length (now classes) ⌝ }
     requires { ⌜ length (now classes) ≤ length (now out) ⌝ }
     ensures { λ r. ⌜ now (out .exit) ≡ over (L1 base (now (classes .entry)) (now (levels .entry))) (now (out .entry)) ⌝ }
@@ -92,6 +94,87 @@ pub(crate) fn reset(classes: &[u8], levels: &[u8], base: u8, out: &mut [u8])
         put_level(out, Position(i), reset_level(class, level, base, ahead));
         ahead = blank_before(class, ahead);
     }
+}
+
+// Looks at every position, as `parts::any_removed` does.
+fn any_separator(classes: &[u8]) -> bool
+    ensures { λ r. ⌜ r ≡ anyOf isSeparator (now (classes .entry)) ⌝ }
+{
+    let mut found = false;
+    let mut i = 0;
+    while i < classes.len() {
+        found = parts::either(found, classes::is_separator(class_at(classes, Position(i))));
+        i += 1;
+    }
+    found
+}
+
+fn blank_or_removed(class: u8) -> bool
+    ensures { λ r. ⌜ r ≡ inTail class ⌝ }
+{
+    if classes::is_removed(class) {
+        return true;
+    }
+    classes::is_blank(class)
+}
+
+// Where the blanks at the line's end begin; removed positions do not interrupt them.
+fn blank_tail(classes: &[u8]) -> Position
+    ensures { λ r. ⌜ Tail (now (classes .entry)) (r .0) ⌝ }
+{
+    let mut i = classes.len();
+    while 0 < i {
+        if blank_or_removed(class_at(classes, Position(i - 1))) {
+            i -= 1;
+        } else {
+            return Position(i);
+        }
+    }
+    Position(i)
+}
+
+fn copy_levels(levels: &[u8], to: Position, out: &mut [u8])
+    requires { ⌜ to .0 ≤ length (now levels) ⌝ }
+    requires { ⌜ to .0 ≤ length (now out) ⌝ }
+    ensures { λ r. ⌜ now (out .exit) ≡ over (take (to .0) (now (levels .entry))) (now (out .entry)) ⌝ }
+{
+    let end = to.0;
+    let mut i = 0;
+    while i < end {
+        put_level(out, Position(i), level_at(levels, Position(i)));
+        i += 1;
+    }
+}
+
+// Nothing but blanks follows any of these positions.
+fn reset_tail(classes: &[u8], levels: &[u8], base: u8, from: Position, out: &mut [u8])
+    requires { ⌜ length (now levels) ≡ length (now classes) ⌝ }
+    requires { ⌜ length (now classes) ≤ length (now out) ⌝ }
+    requires { ⌜ from .0 ≤ length (now classes) ⌝ }
+    ensures { λ r. ⌜ now (out .exit) ≡ over (take (from .0) (now (out .entry)) ++ tailLevels base (drop (from .0) (now (classes .entry))) (drop (from .0) (now (levels .entry)))) (now (out .entry)) ⌝ }
+{
+    let mut i = from.0;
+    while i < classes.len() {
+        let class = class_at(classes, Position(i));
+        let level = level_at(levels, Position(i));
+        put_level(out, Position(i), reset_level(class, level, base, true));
+        i += 1;
+    }
+}
+
+// L1. Without a separator only the blanks at the line's end change, and all before them is copied.
+pub(crate) fn reset(classes: &[u8], levels: &[u8], base: u8, out: &mut [u8])
+    requires { ⌜ length (now levels) ≡ length (now classes) ⌝ }
+    requires { ⌜ length (now classes) ≤ length (now out) ⌝ }
+    ensures { λ r. ⌜ now (out .exit) ≡ over (L1 base (now (classes .entry)) (now (levels .entry))) (now (out .entry)) ⌝ }
+{
+    if any_separator(classes) {
+        reset_from_end(classes, levels, base, out);
+        return;
+    }
+    let tail = blank_tail(classes);
+    copy_levels(levels, tail, out);
+    reset_tail(classes, levels, base, tail, out);
 }
 
 // The level of what stood at a place before any pass.

@@ -1,68 +1,59 @@
--- `line::reset` meets its contract. The invariant: from position i on the line is reset. The measure is the number of positions left.
+-- `line::reset` meets its contract: without a separator the levels before the blank tail, then those of the tail.
 -- Assumes nothing.
-use Rattle.line.proofs.ResetLaws.{Reset, begun, next, ended}
+use Rattle.rules.proofs.Tests.{known}
+use Rattle.line.proofs.TailLaws.{reset-joined}
 use borrow.Author.Needs.{needs}
 use Rattle.line.proofs.reset.Statement.{statement}
 use Rattle.line.proofs.reset.Tie as tie
 
-abbrev Inv-loop : tie.InvT-loop
-Inv-loop classes levels base out₀ i₀ ahead₀ out i ahead = Reset base classes levels out₀ out i ahead
+any-separator-requires : tie.Need-any-separator-requires
+any-separator-requires c κs = search needs
 
-abbrev μ-loop : tie.MeasureT-loop
-μ-loop classes levels base out₀ i₀ ahead₀ out i ahead = i
+reset-from-end-requires : tie.Need-reset-from-end-requires
+reset-from-end-requires c κs = search needs
 
-loop-holds : tie.Need-loop-holds Inv-loop μ-loop
-loop-holds c = begun _ _ _ _
-
-sub-i : tie.Need-sub-i Inv-loop μ-loop
-sub-i c = search needs
-
-class-at-requires : tie.Need-class-at-requires Inv-loop μ-loop
-class-at-requires c κs = search needs
-
-level-at-requires : tie.Need-level-at-requires Inv-loop μ-loop
-level-at-requires c κs = search needs
-
-reset-level-requires : tie.Need-reset-level-requires Inv-loop μ-loop
-reset-level-requires c κs = search needs
-
-put-level-requires : tie.Need-put-level-requires Inv-loop μ-loop
-put-level-requires c κs = search needs
-
-blank-before-requires : tie.Need-blank-before-requires Inv-loop μ-loop
-blank-before-requires c κs = search needs
-
-loop-less : tie.Need-loop-less Inv-loop μ-loop
-loop-less c = search needs
-
-loop-again : tie.Need-loop-again Inv-loop μ-loop
-loop-again c =
-    let put = c .before .before .before in
-    let in-loop = put .before .before .before .before .before in
-    next _ _ _ _ _ _ (search needs) (search needs) _ _ _ _ _ _ (in-loop .loop-test .taken) (in-loop .before .loop .inv)
-    (put .before .before .before .before .class-at .ensures) (put .before .before .before .level-at .ensures)
-    (put .before .reset-level .ensures) (put .put-level .ensures) (c .blank-before .ensures)
-
-same-length : tie.Need-same-length Inv-loop μ-loop
+same-length : tie.Need-same-length
 same-length c = search needs
 
-returns : tie.Need-returns Inv-loop μ-loop
-returns c = ended _ _ _ _ _ _ (search needs) (search needs) _ (c .loop-test .left) (c .before .loop .inv)
+returns : tie.Need-returns
+returns c = search needs
+
+blank-tail-requires : tie.Need-blank-tail-requires
+blank-tail-requires c κs = search needs
+
+copy-levels-requires : tie.Need-copy-levels-requires
+copy-levels-requires c κs =
+    let w = c .before .blank-tail .ensures .within in
+    search needs
+
+reset-tail-requires : tie.Need-reset-tail-requires
+reset-tail-requires c κs =
+    let w = c .before .before .before .before .before .blank-tail .ensures .within in
+    search needs
+
+same-length-2 : tie.Need-same-length-2
+same-length-2 c = search needs
+
+returns-2 : tie.Need-returns-2
+returns-2 c =
+    let tail = c .before .before in
+    let copied = tail .before .before .before .before in
+    let tested = copied .before .before .before in
+    let start = tested .before .before .before .before .before in
+    let args = start .args in
+    reset-joined (args .base) (args .classes .now) (args .levels .now) (args .out .now) _ _ _ (start .pre .0) (known (tested .before .any-separator .ensures) (tested .if1 .left))
+    (copied .before .before .blank-tail .ensures) (copied .copy-levels .ensures) (tail .reset-tail .ensures)
 
 pub reset-spec : {M : Type 1} → statement M
 reset-spec =
     tie.close
     (tie.spec
-    Inv-loop
-    μ-loop
-    loop-holds
-    sub-i
-    class-at-requires
-    level-at-requires
-    reset-level-requires
-    put-level-requires
-    blank-before-requires
-    loop-less
-    loop-again
+    any-separator-requires
+    reset-from-end-requires
     same-length
-    returns)
+    returns
+    blank-tail-requires
+    copy-levels-requires
+    reset-tail-requires
+    same-length-2
+    returns-2)

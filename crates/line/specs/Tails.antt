@@ -1,0 +1,27 @@
+-- The blanks at a line's end, with the removed positions among them, and their reset.
+use Prim.Native.Nat.{ℕ, suc, _≤_, _<_}
+use mathlib.Core.Path.{_≡_}
+use mathlib.Core.Bool.{Bool, true, false, _||_, _&&_}
+use mathlib.Core.List.{List, [], _∷_}
+use lib.ListN.{length, getD}
+use Rattle.rules.specs.Choice.{if_then_else_}
+use Rattle.rules.specs.Classes.{isRemoved, isSeparator, isBlank}
+
+abbrev pub inTail : ℕ → Bool
+inTail c = isRemoved c || isBlank c
+
+-- where the tail begins: it is of such classes alone, and what comes before it is of none
+pub record Tail (cs : List ℕ) (from : ℕ) : Type 0 where
+  pub within : from ≤ length cs
+  pub blank : (k : ℕ) → from ≤ k → k < length cs → inTail (getD cs k 0) ≡ true
+  pub stops : (k : ℕ) → suc k ≡ from → inTail (getD cs k 0) ≡ false
+
+-- a level after the reset, given whether only blanks follow up to a separator or the line's end
+abbrev pub levelAt : ℕ → ℕ → ℕ → Bool → ℕ
+levelAt base c l ahead = if isSeparator c || (isBlank c && ahead) then base else l
+
+-- levels after the reset where only blanks follow each
+unfoldable pub tailLevels : ℕ → List ℕ → List ℕ → List ℕ
+tailLevels base [] ls = []
+tailLevels base (c ∷ cs) [] = []
+tailLevels base (c ∷ cs) (l ∷ ls) = levelAt base c l true ∷ tailLevels base cs ls
