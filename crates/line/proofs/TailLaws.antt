@@ -1,21 +1,22 @@
--- L1 on a line without a separator: what comes before the blanks at its end is as it was.
+-- L1 on a line without a separator: what comes before the blanks at its end is as it was. And on a line that ends in one:
+-- the rest is reset as a line of its own.
 -- Assumes nothing.
 use Prim.Native.Nat.{ℕ, zero, suc, _+_, _-_, _≤_, _<_}
 use native.Mathlib.Omega.{arith}
 use mathlib.Core.Path.{_≡_, refl, sym, ap, subst, _∙_}
 use mathlib.Core.Logic.{_⊎_, inl, inr}
-use mathlib.Core.Bool.{Bool, true, false, _||_, _&&_}
+use mathlib.Core.Bool.{Bool, true, false, _&&_}
 use mathlib.Core.List.{List, [], _∷_, _++_}
-use lib.ListN.{length, getD, take, drop, set, drop-of-length-le}
-use lib.Seq.{take-at, drop-at, drop-drop, getD-take, length-take-le}
+use lib.ListN.{length, getD, take, drop, set, length-append, length-drop, drop-of-length-le}
+use lib.Seq.{take-at, drop-at, take-all, drop-drop, getD-take, length-take-le}
 use Rattle.rules.specs.Choice.{if_then_else_}
 use Rattle.rules.specs.Classes.{isRemoved, isSeparator, isBlank}
 use Rattle.rules.specs.Jobs.{over}
 use Rattle.rules.specs.Line.{L1, blankAhead}
 use Rattle.rules.proofs.Any.{anyOf, none-first, neither}
 use Rattle.rules.proofs.Lists.{drop-next, le-or-lt}
-use Rattle.rules.proofs.Filling.{Filled, filled-begun, filled-more, filled-all}
-use Rattle.line.specs.Tails.{inTail, Tail, levelAt, tailLevels}
+use Rattle.rules.proofs.Filling.{Filled, filled-begun, filled-next, filled-more, filled-all}
+use Rattle.line.specs.Tails.{inTail, Tail, Rest, levelAt, tailLevels}
 use Rattle.line.proofs.ResetLaws.{length-L1}
 
 -- the search from the end back: from i on all is blank or removed
@@ -89,7 +90,7 @@ kept-level base c l cs (suc r) s none t = kept-if base c l (isBlank c) (blankAhe
     never true e = e
     never false e = refl
 
-pub L1-tail : (base : ℕ) (cs ls : List ℕ) (r : ℕ) → length ls ≡ length cs → anyOf isSeparator cs ≡ false → Tail cs r → L1 base cs ls ≡ take r ls ++ tailLevels base (drop r cs) (drop r ls)
+L1-tail : (base : ℕ) (cs ls : List ℕ) (r : ℕ) → length ls ≡ length cs → anyOf isSeparator cs ≡ false → Tail cs r → L1 base cs ls ≡ take r ls ++ tailLevels base (drop r cs) (drop r ls)
 unfolding L1 tailLevels
 L1-tail base [] [] zero h none t = refl
 L1-tail base [] [] (suc r) h none t = absurd (omega (arith, t .within))
@@ -167,3 +168,56 @@ reset-joined base cs ls out₀ out₁ out₂ r same none t copied reset =
     ∙ drop-drop (length cs - r) r out₀ ∙ ap (λ (k : ℕ). drop k out₀) n in
     reset ∙ ap (λ (l : List ℕ). over (l ++ tailLevels base (drop r cs) (drop r ls)) out₁) front ∙ ap (λ (l : List ℕ). over l out₁) (sym line)
     ∙ ap (λ (l : List ℕ). L1 base cs ls ++ l) past
+
+-- whether a separator ends the line
+pub rest-all : (cs : List ℕ) → Rest cs (length cs)
+rest-all cs = record { within = omega arith; ends = λ h. absurd (omega arith) }
+
+pub rest-ended : (cs : List ℕ) (class : ℕ) → (length cs ≡ 0 → ⊥) → class ≡ getD cs (length cs - 1) 0 → isSeparator class ≡ true → Rest cs (length cs - 1)
+rest-ended cs class n read s =
+    let some : ¬ (length cs ≡ 0) = n in
+    record { within = omega arith; ends = λ h. (omega arith, ap isSeparator (sym read) ∙ s) }
+
+-- it goes back to the base, and before it the line's end and a separator are one
+ahead-same : (b : Bool) (c : ℕ) → isSeparator c ≡ true → (if b then true else isSeparator c) ≡ true
+ahead-same true c s = refl
+ahead-same false c s = s
+
+ahead-cut : (cs : List ℕ) (r : ℕ) → suc r ≡ length cs → isSeparator (getD cs r 0) ≡ true → blankAhead cs ≡ blankAhead (take r cs)
+unfolding blankAhead
+ahead-cut [] r n s = absurd (omega arith)
+ahead-cut (c ∷ []) zero n s = ahead-same (inTail c) c s
+ahead-cut (c ∷ d ∷ cs) zero n s = absurd (omega arith)
+ahead-cut (c ∷ cs) (suc r) n s = ap (λ (b : Bool). if inTail c then b else isSeparator c) (ahead-cut cs r (omega arith) s)
+
+L1-cut : (base : ℕ) (cs ls : List ℕ) (r : ℕ) → length ls ≡ length cs → suc r ≡ length cs → isSeparator (getD cs r 0) ≡ true → L1 base cs ls ≡ L1 base (take r cs) (take r ls) ++ (base ∷ [])
+unfolding L1
+L1-cut base [] ls r h n s = absurd (omega arith)
+L1-cut base (c ∷ cs) [] r h n s = absurd (omega arith)
+L1-cut base (c ∷ []) (l ∷ ls) zero h n s = simp s
+L1-cut base (c ∷ d ∷ cs) (l ∷ ls) zero h n s = absurd (omega arith)
+L1-cut base (c ∷ cs) (l ∷ ls) (suc r) h n s =
+    (λ j. levelAt base c l (ahead-cut cs r (omega arith) s j) ∷ L1-cut base cs ls r (omega arith) (omega arith) s j)
+
+-- the reset of the rest is that of the line, or lacks the base at the line's last position
+module _ (base : ℕ) (cs ls out₀ out₁ : List ℕ) (r : ℕ) (same : length ls ≡ length cs) (reset : out₁ ≡ over (L1 base (take r cs) (take r ls)) out₀) where
+  pub reset-all : r ≡ length cs → out₁ ≡ over (L1 base cs ls) out₀
+  reset-all e =
+      let all : length ls ≤ r = omega arith in
+      let all-cs : length cs ≤ r = omega arith in
+      reset ∙ (λ j. over (L1 base (take-all r cs all-cs j) (take-all r ls all j)) out₀)
+
+  pub reset-ended : (out₂ : List ℕ) → length cs ≤ length out₀ → (r ≡ length cs → ⊥) → Rest cs r → out₂ ≡ set out₁ r base → out₂ ≡ over (L1 base cs ls) out₀
+  reset-ended out₂ room n t put =
+      let some : ¬ (r ≡ length cs) = n in
+      let end = t .ends (omega (arith, t .within)) in
+      let front : List ℕ = L1 base (take r cs) (take r ls) in
+      let short : length (take r cs) ≡ r = length-take-le r cs (t .within) in
+      let long : length front ≡ r = length-L1 base (take r cs) (take r ls) (length-take-le r ls (omega (arith, t .within)) ∙ sym short) ∙ short in
+      let was : length out₁ ≡ length out₀ = ap length reset ∙ length-append front (drop (length front) out₀) ∙ ap (λ (k : ℕ). length front + k) (length-drop (length front) out₀) ∙ omega (arith, t .within) in
+      let filled : Filled (L1 base cs ls) out₀ out₁ r (base ∷ []) = record {
+        long = was;
+        written = ap (λ (l : List ℕ). l ++ (base ∷ [])) (ap (take r) reset ∙ take-at front (drop (length front) out₀) r long) ∙ sym (L1-cut base cs ls r same (end .0) (end .1));
+        beyond = ap (drop r) reset ∙ drop-at front (drop (length front) out₀) r long ∙ ap (λ (k : ℕ). drop k out₀) long;
+      } in
+      put ∙ filled-all (filled-next (L1 base cs ls) out₀ out₁ r base [] (omega (arith, t .within)) filled) refl (omega (arith, end))

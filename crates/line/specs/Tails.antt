@@ -1,4 +1,4 @@
--- The blanks at a line's end, with the removed positions among them, and their reset.
+-- The blanks at a line's end, with the removed positions among them, and their reset; and a separator that ends the line.
 use Prim.Native.Nat.{ℕ, suc, _≤_, _<_}
 use mathlib.Core.Path.{_≡_}
 use mathlib.Core.Bool.{Bool, true, false, _||_, _&&_}
@@ -15,6 +15,11 @@ pub record Tail (cs : List ℕ) (from : ℕ) : Type 0 where
   pub within : from ≤ length cs
   pub blank : (k : ℕ) → from ≤ k → k < length cs → inTail (getD cs k 0) ≡ true
   pub stops : (k : ℕ) → suc k ≡ from → inTail (getD cs k 0) ≡ false
+
+-- how many positions come before a separator that ends the line
+pub record Rest (cs : List ℕ) (count : ℕ) : Type 0 where
+  pub within : count ≤ length cs
+  pub ends : count < length cs → (suc count ≡ length cs) × (isSeparator (getD cs count 0) ≡ true)
 
 -- a level after the reset, given whether only blanks follow up to a separator or the line's end
 abbrev pub levelAt : ℕ → ℕ → ℕ → Bool → ℕ

@@ -16,7 +16,7 @@ ghost use Rattle.rules.proofs.Any.{anyOf};
 ghost use Rattle.rules.proofs.Passes.{span};
 ghost use Rattle.line.specs.Gathered.{Gathered, positions, levelsOf, upFrom, lineItems};
 ghost use Rattle.line.specs.Ordered.{Ordered};
-ghost use Rattle.line.specs.Tails.{inTail, Tail, tailLevels};
+ghost use Rattle.line.specs.Tails.{inTail, Tail, Rest, tailLevels};
 ghost use Rattle.line.specs.Passes.{atLevels, below, passBy, passesBy, Turned};
 
 // A position of the classes and levels, in memory order.
@@ -162,8 +162,8 @@ fn reset_tail(classes: &[u8], levels: &[u8], base: u8, from: Position, out: &mut
     }
 }
 
-// L1. Without a separator only the blanks at the line's end change, and all before them is copied.
-pub(crate) fn reset(classes: &[u8], levels: &[u8], base: u8, out: &mut [u8])
+// Without a separator only the blanks at the line's end change, and all before them is copied.
+fn reset_rest(classes: &[u8], levels: &[u8], base: u8, out: &mut [u8])
     requires { ⌜ length (now levels) ≡ length (now classes) ⌝ }
     requires { ⌜ length (now classes) ≤ length (now out) ⌝ }
     ensures { λ r. ⌜ now (out .exit) ≡ over (L1 base (now (classes .entry)) (now (levels .entry))) (now (out .entry)) ⌝ }
@@ -175,6 +175,34 @@ pub(crate) fn reset(classes: &[u8], levels: &[u8], base: u8, out: &mut [u8])
     let tail = blank_tail(classes);
     copy_levels(levels, tail, out);
     reset_tail(classes, levels, base, tail, out);
+}
+
+// How many positions come before a separator that ends the line; all, where none does.
+fn before_separator(classes: &[u8]) -> usize
+    ensures { λ r. ⌜ Rest (now (classes .entry)) r ⌝ }
+{
+    let count = classes.len();
+    if count == 0 {
+        return count;
+    }
+    if classes::is_separator(class_at(classes, Position(count - 1))) {
+        return count - 1;
+    }
+    count
+}
+
+// L1. A separator that ends the line is put by itself: the last line of a paragraph mostly has no other.
+pub(crate) fn reset(classes: &[u8], levels: &[u8], base: u8, out: &mut [u8])
+    requires { ⌜ length (now levels) ≡ length (now classes) ⌝ }
+    requires { ⌜ length (now classes) ≤ length (now out) ⌝ }
+    ensures { λ r. ⌜ now (out .exit) ≡ over (L1 base (now (classes .entry)) (now (levels .entry))) (now (out .entry)) ⌝ }
+{
+    let count = before_separator(classes);
+    reset_rest(&classes[..count], &levels[..count], base, out);
+    if count == classes.len() {
+        return;
+    }
+    put_level(out, Position(count), base);
 }
 
 // The level of what stood at a place before any pass.

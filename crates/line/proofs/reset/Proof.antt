@@ -1,34 +1,46 @@
--- `line::reset` meets its contract: without a separator the levels before the blank tail, then those of the tail.
+-- `line::reset` meets its contract: the rest is reset as a line of its own, and a separator that ends the line goes to the base.
 -- Assumes nothing.
-use Rattle.rules.proofs.Tests.{known}
-use Rattle.line.proofs.TailLaws.{reset-joined}
+use mathlib.Core.Path.{sym}
+use lib.Seq.{length-take-le}
+use Rattle.line.proofs.TailLaws.{reset-all, reset-ended}
 use borrow.Author.Needs.{needs}
 use Rattle.line.proofs.reset.Statement.{statement}
 use Rattle.line.proofs.reset.Tie as tie
 
-any-separator-requires : tie.Need-any-separator-requires
-any-separator-requires c κs = search needs
+before-separator-requires : tie.Need-before-separator-requires
+before-separator-requires c κs = search needs
 
-reset-from-end-requires : tie.Need-reset-from-end-requires
-reset-from-end-requires c κs = search needs
+slice-aggregate-reset-rest : tie.Need-slice-aggregate-reset-rest
+slice-aggregate-reset-rest c = sym (length-take-le _ _ (c .before .before-separator .ensures .within))
+
+slice-aggregate-reset-rest-2 : tie.Need-slice-aggregate-reset-rest-2
+slice-aggregate-reset-rest-2 c =
+    let w = c .before .before .before-separator .ensures .within in
+    sym (length-take-le _ _ (search needs))
+
+reset-rest-requires : tie.Need-reset-rest-requires
+reset-rest-requires c κs =
+    let cut = c .before .before .before in
+    let args = cut .before .before .before .before .args in
+    let w = cut .before-separator .ensures .within in
+    let m = length-take-le (cut .before-separator .result) (args .classes .now) w in
+    let n = length-take-le (cut .before-separator .result) (args .levels .now) (search needs) in
+    search needs
 
 same-length : tie.Need-same-length
 same-length c = search needs
 
 returns : tie.Need-returns
-returns c = search needs
+returns c =
+    let rest = c .before .before .before in
+    let start = rest .before .before .before .before .before .before .before .before in
+    let args = start .args in
+    reset-all (args .base) (args .classes .now) (args .levels .now) (args .out .now) _ _ (start .pre .0) (rest .reset-rest .ensures) (c .if1 .taken)
 
-blank-tail-requires : tie.Need-blank-tail-requires
-blank-tail-requires c κs = search needs
-
-copy-levels-requires : tie.Need-copy-levels-requires
-copy-levels-requires c κs =
-    let w = c .before .blank-tail .ensures .within in
-    search needs
-
-reset-tail-requires : tie.Need-reset-tail-requires
-reset-tail-requires c κs =
-    let w = c .before .before .before .before .before .blank-tail .ensures .within in
+put-level-requires : tie.Need-put-level-requires
+put-level-requires c κs =
+    let rest = c .before .before .before .before in
+    let w = rest .before .before .before .before .before-separator .ensures .within in
     search needs
 
 same-length-2 : tie.Need-same-length-2
@@ -36,24 +48,23 @@ same-length-2 c = search needs
 
 returns-2 : tie.Need-returns-2
 returns-2 c =
-    let tail = c .before .before in
-    let copied = tail .before .before .before .before in
-    let tested = copied .before .before .before in
-    let start = tested .before .before .before .before .before in
+    let put = c .before .before in
+    let rest = put .before .before .before .before .before in
+    let cut = rest .before .before .before .before in
+    let start = cut .before .before .before .before in
     let args = start .args in
-    reset-joined (args .base) (args .classes .now) (args .levels .now) (args .out .now) _ _ _ (start .pre .0) (known (tested .before .any-separator .ensures) (tested .if1 .left))
-    (copied .before .before .blank-tail .ensures) (copied .copy-levels .ensures) (tail .reset-tail .ensures)
+    reset-ended (args .base) (args .classes .now) (args .levels .now) (args .out .now) _ _ (start .pre .0) (rest .reset-rest .ensures) _ (search needs) (put .before .before .if1 .left) (cut .before-separator .ensures) (put .put-level .ensures)
 
 pub reset-spec : {M : Type 1} → statement M
 reset-spec =
     tie.close
     (tie.spec
-    any-separator-requires
-    reset-from-end-requires
+    before-separator-requires
+    slice-aggregate-reset-rest
+    slice-aggregate-reset-rest-2
+    reset-rest-requires
     same-length
     returns
-    blank-tail-requires
-    copy-levels-requires
-    reset-tail-requires
+    put-level-requires
     same-length-2
     returns-2)

@@ -1,0 +1,59 @@
+-- `line::reset_rest` meets its contract: without a separator the levels before the blank tail, then those of the tail.
+-- Assumes nothing.
+use Rattle.rules.proofs.Tests.{known}
+use Rattle.line.proofs.TailLaws.{reset-joined}
+use borrow.Author.Needs.{needs}
+use Rattle.line.proofs.reset_rest.Statement.{statement}
+use Rattle.line.proofs.reset_rest.Tie as tie
+
+any-separator-requires : tie.Need-any-separator-requires
+any-separator-requires c κs = search needs
+
+reset-from-end-requires : tie.Need-reset-from-end-requires
+reset-from-end-requires c κs = search needs
+
+same-length : tie.Need-same-length
+same-length c = search needs
+
+returns : tie.Need-returns
+returns c = search needs
+
+blank-tail-requires : tie.Need-blank-tail-requires
+blank-tail-requires c κs = search needs
+
+copy-levels-requires : tie.Need-copy-levels-requires
+copy-levels-requires c κs =
+    let w = c .before .blank-tail .ensures .within in
+    search needs
+
+reset-tail-requires : tie.Need-reset-tail-requires
+reset-tail-requires c κs =
+    let w = c .before .before .before .before .before .blank-tail .ensures .within in
+    search needs
+
+same-length-2 : tie.Need-same-length-2
+same-length-2 c = search needs
+
+returns-2 : tie.Need-returns-2
+returns-2 c =
+    let tail = c .before .before in
+    let copied = tail .before .before .before .before in
+    let tested = copied .before .before .before in
+    let start = tested .before .before .before .before .before in
+    let args = start .args in
+    reset-joined (args .base) (args .classes .now) (args .levels .now) (args .out .now) _ _ _ (start .pre .0) (known (tested .before .any-separator .ensures) (tested .if1 .left))
+    (copied .before .before .blank-tail .ensures) (copied .copy-levels .ensures) (tail .reset-tail .ensures)
+
+pub reset-rest-spec : {M : Type 1} → statement M
+reset-rest-spec =
+    tie.close
+    (tie.spec
+    any-separator-requires
+    reset-from-end-requires
+    same-length
+    returns
+    blank-tail-requires
+    copy-levels-requires
+    reset-tail-requires
+    same-length-2
+    returns-2)
