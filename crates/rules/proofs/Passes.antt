@@ -197,7 +197,7 @@ module _ (test : ℕ → Bool) (change : ℕ → ℕ → ℕ → ℕ) (end : ℕ
       (λ fails. ap length (stretches-over before t ts fails) ∙ ap suc (length-stretches t ts))
 
   -- where a change gives every type of the stretch the same one, the stretch is that type so many times
-  filled : (before v : ℕ) (ts : List ℕ) → ((t : ℕ) → test t ≡ true → change before (afterStretch test end ts) t ≡ v) → stretches test change before end ts ≡ replicate (span test ts) v ++ stretches test change before end (drop (span test ts) ts)
+  pub filled : (before v : ℕ) (ts : List ℕ) → ((t : ℕ) → test t ≡ true → change before (afterStretch test end ts) t ≡ v) → stretches test change before end ts ≡ replicate (span test ts) v ++ stretches test change before end (drop (span test ts) ts)
   filled before v [] same = rw (span-nil test)
   filled before v (t ∷ ts) same =
       by-test (test t)

@@ -1,4 +1,5 @@
--- The weak rules as passes: W1 to W4, W6 and W7 are sweeps, W5 goes by stretches; and no rule changes a run's length.
+-- What holds of single rules, the two passes in turn, and that no rule changes a run's length: each is a sweep, W5 goes
+-- by stretches.
 -- Assumes nothing.
 use Prim.Native.Nat.{ℕ}
 use mathlib.Core.Bool.{true, false, _&&_}
@@ -13,24 +14,26 @@ use Rattle.rules.specs.Weak.{W1, W2, W3, W4, W5, W6, W7, changeW3, changeW4, ch
 use Rattle.rules.proofs.Passes.{sweep, length-sweep, map-sweep, length-stretches, by-test}
 use Rattle.weak.specs.Steps.{changeW1, changeW2, strongW2, changeW7, strongW7}
 
-pub W1-sweep : (before : ℕ) (ts : List ℕ) → W1 before ts ≡ sweep (λ s t n. changeW1 s t) changeW1 0 before ts
-unfolding W1 changeW1 sweep
+pub W1-cons : (before t : ℕ) (ts : List ℕ) → W1 before (t ∷ ts) ≡ changeW1 before t ∷ W1 (changeW1 before t) ts
+unfolding W1 changeW1
+W1-cons before t ts = by-test (eqb t NSM) (λ mark. rw mark) (λ other. rw other)
+
+W1-sweep : (before : ℕ) (ts : List ℕ) → W1 before ts ≡ sweep (λ s t n. changeW1 s t) changeW1 0 before ts
+unfolding W1 sweep
 W1-sweep before [] = refl
 W1-sweep before (t ∷ ts) =
-    by-test (eqb t NSM)
-    (λ mark. rw mark (ap (λ (r : List ℕ). before ∷ r) (W1-sweep before ts)))
-    (λ other. rw other (ap (λ (r : List ℕ). t ∷ r) (W1-sweep t ts)))
+    W1-cons before t ts ∙ ap (λ (r : List ℕ). changeW1 before t ∷ r) (W1-sweep (changeW1 before t) ts)
 
-pub W2-sweep : (strong : ℕ) (ts : List ℕ) → W2 strong ts ≡ sweep (λ s t n. changeW2 s t) strongW2 0 strong ts
+W2-sweep : (strong : ℕ) (ts : List ℕ) → W2 strong ts ≡ sweep (λ s t n. changeW2 s t) strongW2 0 strong ts
 unfolding W2 changeW2 strongW2 sweep
 W2-sweep strong [] = refl
 W2-sweep strong (t ∷ ts) = ap (λ (r : List ℕ). changeW2 strong t ∷ r) (W2-sweep (strongW2 strong t) ts)
 
-pub W3-sweep : (ts : List ℕ) → W3 ts ≡ sweep (λ s t n. changeW3 t) (λ s t. s) 0 0 ts
+W3-sweep : (ts : List ℕ) → W3 ts ≡ sweep (λ s t n. changeW3 t) (λ s t. s) 0 0 ts
 unfolding W3
 W3-sweep ts = map-sweep changeW3 ts
 
-pub W4-sweep : (before eor : ℕ) (ts : List ℕ) → W4 before eor ts ≡ sweep changeW4 (λ s t. t) eor before ts
+W4-sweep : (before eor : ℕ) (ts : List ℕ) → W4 before eor ts ≡ sweep changeW4 (λ s t. t) eor before ts
 unfolding W4 sweep
 W4-sweep before eor [] = refl
 W4-sweep before eor (t ∷ ts) = ap (λ (r : List ℕ). changeW4 before t (headOr eor ts) ∷ r) (W4-sweep t eor ts)
@@ -55,19 +58,19 @@ pub W5-same : (before next t : ℕ) → isTerminator t ≡ true → changeW5 bef
 unfolding isTerminator
 W5-same before next t is = ap (changeW5 before next) (eqb-true t ET is)
 
-pub W6-sweep : (ts : List ℕ) → W6 ts ≡ sweep (λ s t n. changeW6 t) (λ s t. s) 0 0 ts
+W6-sweep : (ts : List ℕ) → W6 ts ≡ sweep (λ s t n. changeW6 t) (λ s t. s) 0 0 ts
 unfolding W6
 W6-sweep ts = map-sweep changeW6 ts
 
-pub W7-sweep : (strong : ℕ) (ts : List ℕ) → W7 strong ts ≡ sweep (λ s t n. changeW7 s t) strongW7 0 strong ts
+W7-sweep : (strong : ℕ) (ts : List ℕ) → W7 strong ts ≡ sweep (λ s t n. changeW7 s t) strongW7 0 strong ts
 unfolding W7 changeW7 strongW7 sweep
 W7-sweep strong [] = refl
 W7-sweep strong (t ∷ ts) = ap (λ (r : List ℕ). changeW7 strong t ∷ r) (W7-sweep (strongW7 strong t) ts)
 
--- the rules one after the other, each on what the one before left
-pub weak-in-turn : (sor eor : ℕ) (ts : List ℕ) {t₁ t₂ t₃ t₄ t₅ t₆ t₇ : List ℕ} → t₁ ≡ W1 sor ts → t₂ ≡ W2 sor t₁ → t₃ ≡ W3 t₂ → t₄ ≡ W4 sor eor t₃ → t₅ ≡ W5 sor eor t₄ → t₆ ≡ W6 t₅ → t₇ ≡ W7 sor t₆ → t₇ ≡ weak sor eor ts
+-- the two passes one after the other, the second on what the first left
+pub weak-in-turn : (sor eor : ℕ) (ts : List ℕ) {early late : List ℕ} → early ≡ W4 sor eor (W3 (W2 sor (W1 sor ts))) → late ≡ W7 sor (W6 (W5 sor eor early)) → late ≡ weak sor eor ts
 unfolding weak
-weak-in-turn sor eor ts p₁ p₂ p₃ p₄ p₅ p₆ p₇ = cc
+weak-in-turn sor eor ts first second = second ∙ ap (λ (r : List ℕ). W7 sor (W6 (W5 sor eor r))) first
 
 pub length-weak : (sor eor : ℕ) (ts : List ℕ) → length (weak sor eor ts) ≡ length ts
 unfolding weak W5

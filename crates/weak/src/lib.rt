@@ -1,12 +1,13 @@
-// Weak types: rules W1 to W7 on the types of one run, in place, one function for each rule. A run has a start type
-// `sor` and an end type `eor`.
+// Weak types: rules W1 to W7 on the types of one run, in place, in two passes: W1 to W4, then W5 to W7. A run has a
+// start type `sor` and an end type `eor`.
 ghost use mathlib.Core.Path.{_≡_};
 ghost use Prim.Native.Nat.{_+_};
 ghost use lib.ListN.{drop};
 ghost use Rattle.rules.specs.Weak.{W1, W2, W3, W4, W5, W6, W7, changeW3, changeW4, changeW5, changeW6, isTerminator, weak};
 ghost use Rattle.rules.specs.Classes.{ET};
+ghost use Rattle.rules.proofs.Any.{anyOf};
 ghost use Rattle.rules.proofs.Passes.{span};
-ghost use Rattle.weak.specs.Steps.{changeW1, changeW2, strongW2, changeW7, strongW7};
+ghost use Rattle.weak.specs.Steps.{changeW1, changeW2, strongW2, changeW7, strongW7, isTouched};
 
 fn change_w1(before: u8, t: u8) -> u8
     ensures { λ r. ⌜ r ≡ changeW1 before t ⌝ }
@@ -15,18 +16,6 @@ fn change_w1(before: u8, t: u8) -> u8
         return before;
     }
     t
-}
-
-pub(crate) fn w1(types: &mut [u8], sor: u8)
-    ensures { λ _. ⌜ now (types .exit) ≡ W1 sor (now (types .entry)) ⌝ }
-{
-    let mut before = sor;
-    let mut i = 0;
-    while i < types.len() {
-        before = change_w1(before, types[i]);
-        types[i] = before;
-        i += 1;
-    }
 }
 
 fn change_w2(strong: u8, t: u8) -> u8
@@ -50,19 +39,6 @@ fn strong_w2(strong: u8, t: u8) -> u8
     strong
 }
 
-pub(crate) fn w2(types: &mut [u8], sor: u8)
-    ensures { λ _. ⌜ now (types .exit) ≡ W2 sor (now (types .entry)) ⌝ }
-{
-    let mut strong = sor;
-    let mut i = 0;
-    while i < types.len() {
-        let t = types[i];
-        types[i] = change_w2(strong, t);
-        strong = strong_w2(strong, t);
-        i += 1;
-    }
-}
-
 fn change_w3(t: u8) -> u8
     ensures { λ r. ⌜ r ≡ changeW3 t ⌝ }
 {
@@ -70,16 +46,6 @@ fn change_w3(t: u8) -> u8
         return classes::R;
     }
     t
-}
-
-pub(crate) fn w3(types: &mut [u8])
-    ensures { λ _. ⌜ now (types .exit) ≡ W3 (now (types .entry)) ⌝ }
-{
-    let mut i = 0;
-    while i < types.len() {
-        types[i] = change_w3(types[i]);
-        i += 1;
-    }
 }
 
 // Only between equal types does a separator change: that is asked first, then which number they are.
@@ -107,19 +73,30 @@ fn change_w4(before: u8, t: u8, next: u8) -> u8
     t
 }
 
-// The type before is the one before this rule: it is carried, since the place before is written already.
-pub(crate) fn w4(types: &mut [u8], sor: u8, eor: u8)
-    ensures { λ _. ⌜ now (types .exit) ≡ W4 sor eor (now (types .entry)) ⌝ }
+// W1 to W4 in one pass. W4 asks for the next type as W3 left it, so a type is written when the next one is known; the
+// type before is the one before W4, carried since its place is written already.
+fn w1_to_w4(types: &mut [u8], sor: u8, eor: u8)
+    ensures { λ _. ⌜ now (types .exit) ≡ W4 sor eor (W3 (W2 sor (W1 sor (now (types .entry))))) ⌝ }
 {
+    if types.len() == 0 {
+        return;
+    }
+    // at i: after W1, after W3, and the strong type for what follows; at i - 1: after W3
+    let mut own = change_w1(sor, types[0]);
+    let mut here = change_w3(change_w2(sor, own));
+    let mut strong = strong_w2(sor, own);
     let mut before = sor;
     let mut i = 0;
-    while i < types.len() {
-        let t = types[i];
-        let next = parts::element_or(types, i + 1, eor);
-        types[i] = change_w4(before, t, next);
-        before = t;
+    while i + 1 < types.len() {
+        own = change_w1(own, types[i + 1]);
+        let next = change_w3(change_w2(strong, own));
+        strong = strong_w2(strong, own);
+        types[i] = change_w4(before, here, next);
+        before = here;
+        here = next;
         i += 1;
     }
+    types[i] = change_w4(before, here, eor);
 }
 
 // Where a stretch of ET ends that holds `from`; `from` itself where there is none.
@@ -149,26 +126,6 @@ fn change_w5(before: u8, next: u8) -> u8
     classes::ET
 }
 
-// A stretch's end is sought once, from its first place: the pass stays linear.
-pub(crate) fn w5(types: &mut [u8], sor: u8, eor: u8)
-    ensures { λ _. ⌜ now (types .exit) ≡ W5 sor eor (now (types .entry)) ⌝ }
-{
-    let mut before = sor;
-    let mut i = 0;
-    while i < types.len() {
-        let t = types[i];
-        if t == classes::ET {
-            let end = terminators_end(types, i);
-            let next = parts::element_or(types, end, eor);
-            parts::fill(&mut types[i..end], change_w5(before, next));
-            i = end;
-        } else {
-            before = t;
-            i += 1;
-        }
-    }
-}
-
 fn change_w6(t: u8) -> u8
     ensures { λ r. ⌜ r ≡ changeW6 t ⌝ }
 {
@@ -182,16 +139,6 @@ fn change_w6(t: u8) -> u8
         return classes::ON;
     }
     t
-}
-
-pub(crate) fn w6(types: &mut [u8])
-    ensures { λ _. ⌜ now (types .exit) ≡ W6 (now (types .entry)) ⌝ }
-{
-    let mut i = 0;
-    while i < types.len() {
-        types[i] = change_w6(types[i]);
-        i += 1;
-    }
 }
 
 fn change_w7(strong: u8, t: u8) -> u8
@@ -218,28 +165,73 @@ fn strong_w7(strong: u8, t: u8) -> u8
     strong
 }
 
-pub(crate) fn w7(types: &mut [u8], sor: u8)
-    ensures { λ _. ⌜ now (types .exit) ≡ W7 sor (now (types .entry)) ⌝ }
+// W5 to W7 in one pass: a stretch of ET is filled with what all three make of it. Its end is sought once, from its
+// first place: the pass stays linear.
+fn w5_to_w7(types: &mut [u8], sor: u8, eor: u8)
+    ensures { λ _. ⌜ now (types .exit) ≡ W7 sor (W6 (W5 sor eor (now (types .entry)))) ⌝ }
 {
+    let mut before = sor;
     let mut strong = sor;
     let mut i = 0;
     while i < types.len() {
         let t = types[i];
-        types[i] = change_w7(strong, t);
-        strong = strong_w7(strong, t);
-        i += 1;
+        if t == classes::ET {
+            let end = terminators_end(types, i);
+            let next = parts::element_or(types, end, eor);
+            parts::fill(
+                &mut types[i..end],
+                change_w7(strong, change_w6(change_w5(before, next))),
+            );
+            i = end;
+        } else {
+            types[i] = change_w7(strong, change_w6(t));
+            strong = strong_w7(strong, t);
+            before = t;
+            i += 1;
+        }
     }
 }
 
-// Each rule goes over the whole run before the next.
+fn is_touched(t: u8) -> bool
+    ensures { λ r. ⌜ r ≡ isTouched t ⌝ }
+{
+    if t == classes::AL {
+        return true;
+    }
+    if t == classes::EN {
+        return true;
+    }
+    if t == classes::ES {
+        return true;
+    }
+    if t == classes::ET {
+        return true;
+    }
+    if t == classes::CS {
+        return true;
+    }
+    t == classes::NSM
+}
+
+// It looks at every type: a loop that could stop at the first would read them one by one.
+fn any_touched(types: &[u8]) -> bool
+    ensures { λ r. ⌜ r ≡ anyOf isTouched (now (types .entry)) ⌝ }
+{
+    let mut found = false;
+    let mut i: usize = 0;
+    while i < types.len() {
+        found = parts::either(found, is_touched(types[i]));
+        i += 1;
+    }
+    found
+}
+
+// A run with no type that a rule asks for stays as it is.
 pub fn weak(types: &mut [u8], sor: u8, eor: u8)
     ensures { λ _. ⌜ now (types .exit) ≡ weak sor eor (now (types .entry)) ⌝ }
 {
-    w1(types, sor);
-    w2(types, sor);
-    w3(types);
-    w4(types, sor, eor);
-    w5(types, sor, eor);
-    w6(types);
-    w7(types, sor);
+    if any_touched(types) {
+        w1_to_w4(types, sor, eor);
+        w5_to_w7(types, sor, eor);
+    }
 }

@@ -1,54 +1,41 @@
--- `weak::weak` meets its contract: each rule works on what the one before left. Assumes nothing.
-use borrow.Author.Needs.{needs}
+-- `weak::weak` meets its contract: the second pass works on what the first left, and a run that no rule touches stays.
+-- Assumes nothing.
+use Rattle.rules.proofs.Tests.{known}
 use Rattle.weak.proofs.WeakLaws.{weak-in-turn}
+use Rattle.weak.proofs.TouchedLaws.{weak-untouched}
+use borrow.Author.Needs.{needs}
 use Rattle.weak.proofs.weak.Statement.{statement}
 use Rattle.weak.proofs.weak.Tie as tie
 
-w1-requires : tie.Need-w1-requires
-w1-requires c κs = search needs
+any-touched-requires : tie.Need-any-touched-requires
+any-touched-requires c κs = search needs
 
-w2-requires : tie.Need-w2-requires
-w2-requires c κs = search needs
+w1-to-w4-requires : tie.Need-w1-to-w4-requires
+w1-to-w4-requires c κs = search needs
 
-w3-requires : tie.Need-w3-requires
-w3-requires c κs = search needs
-
-w4-requires : tie.Need-w4-requires
-w4-requires c κs = search needs
-
-w5-requires : tie.Need-w5-requires
-w5-requires c κs = search needs
-
-w6-requires : tie.Need-w6-requires
-w6-requires c κs = search needs
-
-w7-requires : tie.Need-w7-requires
-w7-requires c κs = search needs
+w5-to-w7-requires : tie.Need-w5-to-w7-requires
+w5-to-w7-requires c κs = search needs
 
 same-length : tie.Need-same-length
 same-length c = search needs
 
 returns : tie.Need-returns
-returns c =
-    let at7 = c .before .before in
-    let at6 = at7 .before .before .before .before in
-    let at5 = at6 .before .before .before .before in
-    let at4 = at5 .before .before .before .before in
-    let at3 = at4 .before .before .before .before in
-    let at2 = at3 .before .before .before .before in
-    let at1 = at2 .before .before .before .before in
-    weak-in-turn _ _ _ (at1 .w1 .ensures) (at2 .w2 .ensures) (at3 .w3 .ensures) (at4 .w4 .ensures) (at5 .w5 .ensures) (at6 .w6 .ensures) (at7 .w7 .ensures)
+returns c = weak-in-turn _ _ _ (c .before .before .before .before .before .before .w1-to-w4 .ensures) (c .before .before .w5-to-w7 .ensures)
+
+same-length-2 : tie.Need-same-length-2
+same-length-2 c = search needs
+
+returns-2 : tie.Need-returns-2
+returns-2 c = weak-untouched _ _ _ (known (c .before .any-touched .ensures) (c .if1 .left))
 
 pub weak-spec : {M : Type 1} → statement M
 weak-spec =
     tie.close
     (tie.spec
-    w1-requires
-    w2-requires
-    w3-requires
-    w4-requires
-    w5-requires
-    w6-requires
-    w7-requires
+    any-touched-requires
+    w1-to-w4-requires
+    w5-to-w7-requires
     same-length
-    returns)
+    returns
+    same-length-2
+    returns-2)

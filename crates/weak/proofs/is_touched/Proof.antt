@@ -1,0 +1,33 @@
+-- `weak::is_touched` meets its contract: the tests on the way to each return decide `isTouched`. Assumes nothing.
+use borrow.Author.Needs.{needs}
+use Rattle.rules.proofs.Tests.{tests}
+use Rattle.weak.specs.Steps.{isTouched}
+use Rattle.weak.proofs.is_touched.Statement.{statement}
+use Rattle.weak.proofs.is_touched.Tie as tie
+
+returns : tie.Need-returns
+unfolding isTouched
+returns c = search (needs, tests)
+
+returns-2 : tie.Need-returns-2
+unfolding isTouched
+returns-2 c = search (needs, tests)
+
+returns-3 : tie.Need-returns-3
+unfolding isTouched
+returns-3 c = search (needs, tests)
+
+returns-4 : tie.Need-returns-4
+unfolding isTouched
+returns-4 c = search (needs, tests)
+
+returns-5 : tie.Need-returns-5
+unfolding isTouched
+returns-5 c = search (needs, tests)
+
+returns-6 : tie.Need-returns-6
+unfolding isTouched
+returns-6 c = search (needs, tests)
+
+pub is-touched-spec : {M : Type 1} → statement M
+is-touched-spec = tie.close (tie.spec returns returns-2 returns-3 returns-4 returns-5 returns-6)
