@@ -1,3 +1,4 @@
+pub mod AnyLaws
 pub mod CheckLaws
 pub mod PageLaws
 pub mod SoundLaws

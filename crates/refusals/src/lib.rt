@@ -5,7 +5,9 @@ ghost use mathlib.Core.Bool.{Bool};
 ghost use Prim.Native.Nat.{_+_, _≤_, _<_};
 ghost use lib.ListN.{length, getD, drop};
 ghost use Rattle.rules.specs.Refusals.{faultAt, firstFault, checkClasses, isBadLevel, firstBadLevel, endsRiseTo, checksOfLevels, checksOfOrder, checksOfLine, checksOfLines};
+ghost use Rattle.rules.proofs.Any.{anyOf, anyPair};
 ghost use Rattle.refusals.specs.Page.{checkOf, numberOf, placeOf};
+ghost use Rattle.refusals.specs.Faults.{isFault};
 
 // The longest paragraph, and the highest resolved level.
 pub const LONGEST: usize = 4096;
@@ -86,8 +88,8 @@ pub(crate) fn fault_at(classes: &[u8], i: usize) -> Checked
     Checked::Sound
 }
 
-// The first faulty position from the left.
-pub(crate) fn first_fault(classes: &[u8]) -> Checked
+// The walk to the first faulty position from the left.
+pub(crate) fn search_fault(classes: &[u8]) -> Checked
     ensures { λ r. ⌜ checkOf r ≡ firstFault 0 (now (classes .entry)) ⌝ }
 {
     let mut i = 0;
@@ -99,6 +101,44 @@ pub(crate) fn first_fault(classes: &[u8]) -> Checked
         i += 1;
     }
     Checked::Sound
+}
+
+// A class that is a fault wherever something stands after it.
+pub(crate) fn is_fault(class: u8) -> bool
+    ensures { λ r. ⌜ r ≡ isFault class ⌝ }
+{
+    if classes::is_unknown(class) {
+        return true;
+    }
+    classes::is_paragraph_end(class)
+}
+
+// It looks at every class: a loop that could stop at the first fault would read them one by one.
+pub(crate) fn any_fault(classes: &[u8]) -> bool
+    ensures { λ r. ⌜ r ≡ anyOf isFault (now (classes .entry)) ⌝ }
+{
+    let mut found = false;
+    let mut i: usize = 0;
+    while i < classes.len() {
+        found = parts::either(found, is_fault(classes[i]));
+        i += 1;
+    }
+    found
+}
+
+// The first faulty position from the left. Almost always there is none, so the walk is made only where there is one
+// before the last; the last alone may be a separator.
+pub(crate) fn first_fault(classes: &[u8]) -> Checked
+    ensures { λ r. ⌜ checkOf r ≡ firstFault 0 (now (classes .entry)) ⌝ }
+{
+    if classes.len() == 0 {
+        return search_fault(classes);
+    }
+    let last = classes.len() - 1;
+    if any_fault(&classes[..last]) {
+        return search_fault(classes);
+    }
+    fault_at(classes, last)
 }
 
 // What every job but Cut asks of a paragraph's classes: 1, 3, then 2 or 4.
@@ -124,8 +164,22 @@ pub(crate) fn is_bad_level(class: u8, level: u8) -> bool
     HIGHEST_RESOLVED < level
 }
 
-// The first lent level that is bad, looked for on the paragraph's positions alone.
-pub(crate) fn first_bad_level(classes: &[u8], levels: &[u8]) -> Checked
+// Whether any lent level is bad, without an early exit, as `any_fault`.
+pub(crate) fn any_bad_level(classes: &[u8], levels: &[u8]) -> bool
+    requires { ⌜ length (now classes) ≤ length (now levels) ⌝ }
+    ensures { λ r. ⌜ r ≡ anyPair isBadLevel (now (classes .entry)) (now (levels .entry)) ⌝ }
+{
+    let mut bad = false;
+    let mut i: usize = 0;
+    while i < classes.len() {
+        bad = parts::either(bad, is_bad_level(classes[i], levels[i]));
+        i += 1;
+    }
+    bad
+}
+
+// The walk to the first lent level that is bad, on the paragraph's positions alone.
+pub(crate) fn search_bad_level(classes: &[u8], levels: &[u8]) -> Checked
     requires { ⌜ length (now classes) ≤ length (now levels) ⌝ }
     ensures { λ r. ⌜ checkOf r ≡ firstBadLevel 0 (now (classes .entry)) (now (levels .entry)) ⌝ }
 {
@@ -135,6 +189,17 @@ pub(crate) fn first_bad_level(classes: &[u8], levels: &[u8]) -> Checked
             return Checked::Refused(Refusal::BadLevel(i));
         }
         i += 1;
+    }
+    Checked::Sound
+}
+
+// The first lent level that is bad: looked for only where there is one.
+pub(crate) fn first_bad_level(classes: &[u8], levels: &[u8]) -> Checked
+    requires { ⌜ length (now classes) ≤ length (now levels) ⌝ }
+    ensures { λ r. ⌜ checkOf r ≡ firstBadLevel 0 (now (classes .entry)) (now (levels .entry)) ⌝ }
+{
+    if any_bad_level(classes, levels) {
+        return search_bad_level(classes, levels);
     }
     Checked::Sound
 }

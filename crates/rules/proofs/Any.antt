@@ -46,3 +46,31 @@ pub any-done : (test : ℕ → Bool) (xs : List ℕ) (i : ℕ) (found : Bool) �
 unfolding anyOf
 any-done test xs i found past now =
     sym (or-false found) ∙ ap (λ (r : List ℕ). found || anyOf test r) (sym (drop-of-length-le xs past)) ∙ now
+
+-- ---- the same over two lists, place by place, up to where either ends
+unfoldable pub anyPair : (ℕ → ℕ → Bool) → List ℕ → List ℕ → Bool
+anyPair test [] ys = false
+anyPair test (x ∷ xs) [] = false
+anyPair test (x ∷ xs) (y ∷ ys) = test x y || anyPair test xs ys
+
+pub no-pair-first : (test : ℕ → ℕ → Bool) (x y : ℕ) (xs ys : List ℕ) → anyPair test (x ∷ xs) (y ∷ ys) ≡ false → (test x y ≡ false) × (anyPair test xs ys ≡ false)
+unfolding anyPair
+no-pair-first test x y xs ys none = neither (test x y) (anyPair test xs ys) none
+
+pub pair-begun : (test : ℕ → ℕ → Bool) (xs ys : List ℕ) → (false || anyPair test xs ys) ≡ anyPair test xs ys
+pair-begun test xs ys = refl
+
+pub pair-next : (test : ℕ → ℕ → Bool) (xs ys : List ℕ) (i : ℕ) (found here more : Bool) → i < length xs → length xs ≤ length ys → here ≡ test (getD xs i 0) (getD ys i 0) → more ≡ (found || here) → (found || anyPair test (drop i xs) (drop i ys)) ≡ anyPair test xs ys → (more || anyPair test (drop (i + 1) xs) (drop (i + 1) ys)) ≡ anyPair test xs ys
+unfolding anyPair
+pair-next test xs ys i found here more below room is joins now =
+    let under : i < length ys = omega arith in
+    ap (λ (b : Bool). b || anyPair test (drop (i + 1) xs) (drop (i + 1) ys)) (joins ∙ ap (λ (b : Bool). found || b) is)
+    ∙ or-assoc found (test (getD xs i 0) (getD ys i 0)) (anyPair test (drop (i + 1) xs) (drop (i + 1) ys))
+    ∙ ap (λ (r : List ℕ). found || anyPair test r (getD ys i 0 ∷ drop (i + 1) ys)) (sym (drop-next xs i below))
+    ∙ ap (λ (r : List ℕ). found || anyPair test (drop i xs) r) (sym (drop-next ys i under))
+    ∙ now
+
+pub pair-done : (test : ℕ → ℕ → Bool) (xs ys : List ℕ) (i : ℕ) (found : Bool) → length xs ≤ i → (found || anyPair test (drop i xs) (drop i ys)) ≡ anyPair test xs ys → found ≡ anyPair test xs ys
+unfolding anyPair
+pair-done test xs ys i found past now =
+    sym (or-false found) ∙ ap (λ (r : List ℕ). found || anyPair test r (drop i ys)) (sym (drop-of-length-le xs past)) ∙ now

@@ -1,69 +1,54 @@
--- `refusals::first_fault` meets its contract: the invariant is that the first fault from i on is the first of all; each way through the loop is a law of the walk.
+-- `refusals::first_fault` meets its contract: the walk finds it, or where nothing is wrong before the last position it is
+-- what the last has.
 -- Assumes nothing.
-use Rattle.refusals.specs.Page.{checkOf}
-use Prim.Native.Nat.{_≤_, _-_}
-use mathlib.Core.Path.{_≡_, sym, _∙_, refl, ap}
-use lib.ListN.{length, drop}
+use mathlib.Core.Path.{sym}
 use native.Mathlib.Omega.{arith}
-use Rattle.rules.specs.Refusals.{firstFault}
-use Rattle.refusals.proofs.CheckLaws.{walk-step, walk-found, walk-done}
+use lib.Seq.{length-take-le}
+use Rattle.rules.proofs.Tests.{known}
+use Rattle.refusals.proofs.AnyLaws.{last-is-first}
 use borrow.Author.Needs.{needs}
 use Rattle.refusals.proofs.first_fault.Statement.{statement}
 use Rattle.refusals.proofs.first_fault.Tie as tie
 
-abbrev Inv-loop : tie.InvT-loop
-Inv-loop classes i₀ i = (i ≤ length classes) × (firstFault i (drop i classes) ≡ firstFault 0 classes)
+search-fault-requires : tie.Need-search-fault-requires
+search-fault-requires c κs = search needs
 
-abbrev μ-loop : tie.MeasureT-loop
-μ-loop classes i₀ i = length classes - i
+returns : tie.Need-returns
+returns c = search needs
 
-loop-holds : tie.Need-loop-holds Inv-loop μ-loop
-loop-holds c = (omega arith, refl)
+sub-last : tie.Need-sub-last
+sub-last c = search needs
 
-fault-at-requires : tie.Need-fault-at-requires Inv-loop μ-loop
+slice-aggregate-any-fault : tie.Need-slice-aggregate-any-fault
+slice-aggregate-any-fault c = sym (length-take-le _ _ (omega arith))
+
+any-fault-requires : tie.Need-any-fault-requires
+any-fault-requires c κs = search needs
+
+search-fault-requires-2 : tie.Need-search-fault-requires-2
+search-fault-requires-2 c κs = search needs
+
+returns-2 : tie.Need-returns-2
+returns-2 c = search needs
+
+fault-at-requires : tie.Need-fault-at-requires
 fault-at-requires c κs = search needs
 
-enum-known-found : tie.Need-enum-known-found Inv-loop μ-loop
-enum-known-found c = search needs
-
-returns : tie.Need-returns Inv-loop μ-loop
-returns c =
-    walk-found _ _ _ _ _ (c .before .before .before .before .loop-test .taken)
-    (sym (c .before .before .before .fault-at .ensures) ∙ ap checkOf (c .before .found .given .1))
-    (c .before .before .before .before .before .loop .inv .1)
-
-enum-told : tie.Need-enum-told Inv-loop μ-loop
-enum-told c = search needs
-
-add-i : tie.Need-add-i Inv-loop μ-loop
-add-i c = search needs
-
-loop-less : tie.Need-loop-less Inv-loop μ-loop
-loop-less c = search needs
-
-loop-again : tie.Need-loop-again Inv-loop μ-loop
-loop-again c = (
-  omega arith,
-  walk-step _ _ _ (c .before .before .before .loop-test .taken)
-      (sym (c .before .before .fault-at .ensures) ∙ ap checkOf (c .enum-told .given .1))
-      (c .before .before .before .before .loop .inv .1),
-)
-
-returns-2 : tie.Need-returns-2 Inv-loop μ-loop
-returns-2 c = walk-done _ _ _ (c .loop-test .left) (c .before .loop .inv .1)
+returns-3 : tie.Need-returns-3
+returns-3 c =
+    last-is-first _ _ (c .before .before .before .before .if1 .left)
+    (known (c .before .before .any-fault .ensures) (c .before .if2 .left)) (c .fault-at .ensures)
 
 pub first-fault-spec : {M : Type 1} → statement M
 first-fault-spec =
     tie.close
     (tie.spec
-    Inv-loop
-    μ-loop
-    loop-holds
-    fault-at-requires
-    enum-known-found
+    search-fault-requires
     returns
-    enum-told
-    add-i
-    loop-less
-    loop-again
-    returns-2)
+    sub-last
+    slice-aggregate-any-fault
+    any-fault-requires
+    search-fault-requires-2
+    returns-2
+    fault-at-requires
+    returns-3)
