@@ -81,26 +81,6 @@ fn neutrals_end(types: &[u8], from: usize) -> usize
     i
 }
 
-// Both rules in one pass. A stretch's end is sought once, from its first place: the pass stays linear.
-pub fn resolve_neutrals(types: &mut [u8], level: u8, sor: u8, eor: u8)
-    ensures { λ _. ⌜ now (types .exit) ≡ N2 level (N1 sor eor (now (types .entry))) ⌝ }
-{
-    let mut before = sor;
-    let mut i = 0;
-    while i < types.len() {
-        let t = types[i];
-        if classes::is_neutral(t) {
-            let end = neutrals_end(types, i);
-            let next = parts::element_or(types, end, eor);
-            parts::fill(&mut types[i..end], change_neutral(level, before, next));
-            i = end;
-        } else {
-            before = t;
-            i += 1;
-        }
-    }
-}
-
 fn i1(level: u8, t: u8) -> u8
     requires { ⌜ level ≤ 61 ⌝ }
     ensures { λ r. ⌜ r ≡ I1 level t ⌝ }
@@ -138,15 +118,29 @@ fn implicit_level(level: u8, t: u8) -> u8
     i1(level, t)
 }
 
-pub fn implicit_levels(types: &[u8], level: u8, levels: &mut [u8])
+// N1, N2 and I in one pass from the types to the levels. A stretch's end is sought once, from its first place: the pass
+// stays linear.
+pub fn neutral_levels(types: &[u8], level: u8, sor: u8, eor: u8, levels: &mut [u8])
     requires { ⌜ length (now types) ≡ length (now levels) ⌝ }
     requires { ⌜ level ≤ 61 ⌝ }
-    ensures { λ _. ⌜ now (levels .exit) ≡ map (implicitLevel level) (now (types .entry)) ⌝ }
+    ensures { λ _. ⌜ now (levels .exit) ≡ map (implicitLevel level) (N2 level (N1 sor eor (now (types .entry)))) ⌝ }
 {
+    let mut before = sor;
     let mut i = 0;
     while i < types.len() {
         let t = types[i];
-        levels[i] = implicit_level(level, t);
-        i += 1;
+        if classes::is_neutral(t) {
+            let end = neutrals_end(types, i);
+            let next = parts::element_or(types, end, eor);
+            parts::fill(
+                &mut levels[i..end],
+                implicit_level(level, change_neutral(level, before, next)),
+            );
+            i = end;
+        } else {
+            levels[i] = implicit_level(level, t);
+            before = t;
+            i += 1;
+        }
     }
 }

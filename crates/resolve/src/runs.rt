@@ -38,8 +38,7 @@ pub(crate) fn resolve_run(types: &mut [u8], levels: &mut [u8], level: u8, sor: u
     ensures { λ _. ⌜ now (levels .exit) ≡ resolveRun level sor eor (now (types .entry)) ⌝ }
 {
     weak::weak(types, sor, eor);
-    neutral::resolve_neutrals(types, level, sor, eor);
-    neutral::implicit_levels(types, level, levels);
+    neutral::neutral_levels(types, level, sor, eor, levels);
 }
 
 // Each run in turn. `before` is the level of the run before it, at first the base.

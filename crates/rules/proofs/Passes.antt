@@ -27,7 +27,7 @@ getD-within [] i d e h = absurd (not-suc-le-zero h)
 getD-within (x ∷ xs) zero d e h = refl
 getD-within (x ∷ xs) (suc i) d e h = getD-within xs i d e (le-of-suc-le-suc h)
 
--- ---- Sweeps: W1 to W4, W6, W7 and the implicit levels
+-- ---- Sweeps: W1 to W4, W6 and W7
 
 -- a type is written anew by the value carried, itself and the next one, `end` where there is none
 unfoldable pub sweep : (ℕ → ℕ → ℕ → ℕ) → (ℕ → ℕ → ℕ) → ℕ → ℕ → List ℕ → List ℕ
@@ -208,6 +208,15 @@ module _ (test : ℕ → Bool) (change : ℕ → ℕ → ℕ → ℕ) (end : ℕ
       ∙ ap (λ (n : ℕ). replicate n v ++ stretches test change before end (drop n (t ∷ ts))) (sym (span-here test t ts holds)))
       (λ fails. rw (span-none test t ts fails))
 
+-- what is left at i, where a stretch ends at e: what its change gives every type of it, so many times, and what is left at e
+stretch-parted : (test : ℕ → Bool) (change : ℕ → ℕ → ℕ → ℕ) (end : ℕ) (xs : List ℕ) (before i e v : ℕ) → i ≤ e → e ≡ i + span test (drop i xs) → ((t : ℕ) → test t ≡ true → change before (getD xs e end) t ≡ v) → stretches test change before end (drop i xs) ≡ replicate (e - i) v ++ stretches test change before end (drop e xs)
+stretch-parted test change end xs before i e v h ends same =
+    let size : span test (drop i xs) ≡ e - i = omega arith in
+    let there : i + (e - i) ≡ e = omega arith in
+    filled test change end before v (drop i xs) (λ t holds. ap (λ (n : ℕ). change before n t) (after-span test end (drop i xs) ∙ getD-drop i xs (span test (drop i xs)) end ∙ ap (λ (n : ℕ). getD xs n end) (sym ends)) ∙ same t holds)
+    ∙ ap (λ (n : ℕ). replicate n v ++ stretches test change before end (drop n (drop i xs))) size
+    ∙ ap (λ (r : List ℕ). replicate (e - i) v ++ stretches test change before end r) (drop-drop (e - i) i xs ∙ ap (λ (n : ℕ). drop n xs) there)
+
 -- a second change of every type, one that keeps what stands outside the stretches, joins the first
 pub map-stretches : (f : ℕ → ℕ) (test : ℕ → Bool) (change : ℕ → ℕ → ℕ → ℕ) (end : ℕ) → ((t : ℕ) → test t ≡ false → f t ≡ t) → (before : ℕ) (ts : List ℕ) → map f (stretches test change before end ts) ≡ stretches test (λ b n t. f (change b n t)) before end ts
 map-stretches f test change end keeps before [] =
@@ -263,11 +272,7 @@ module _ {test : ℕ → Bool} {change : ℕ → ℕ → ℕ → ℕ} {end : ℕ
 
     the-stretch : stretches test change before end (drop i xs) ≡ ys ++ stretches test change before end (drop e xs)
     the-stretch =
-        let size : span test (drop i xs) ≡ e - i = omega arith in
-        let there : i + (e - i) ≡ e = omega (arith, bounds) in
-        filled test change end before v (drop i xs) (λ t holds. ap (λ (n : ℕ). change before n t) (after-span test end (drop i xs) ∙ getD-drop i xs (span test (drop i xs)) end ∙ ap (λ (n : ℕ). getD xs n end) (sym ends)) ∙ same t holds)
-        ∙ ap (λ (n : ℕ). replicate n v ++ stretches test change before end (drop n (drop i xs))) size
-        ∙ ap (λ (r : List ℕ). replicate (e - i) v ++ stretches test change before end r) (drop-drop (e - i) i xs ∙ ap (λ (n : ℕ). drop n xs) there)
+        stretch-parted test change end xs before i e v (bounds .0) ends same
         ∙ ap (λ (r : List ℕ). r ++ stretches test change before end (drop e xs)) (sym the-fill)
 
     pub stretch-filled : Stretched test change end start xs₀ (putMid i (e - i) xs ys) before e
@@ -287,3 +292,71 @@ module _ {test : ℕ → Bool} {change : ℕ → ℕ → ℕ → ℕ} {end : ℕ
   stretch-done {start} {xs₀} {xs} {before} {i} now past =
       sym (append-nil xs)
       ∙ (rw (take-all i xs past, drop-of-length-le xs past, stretches-nil test change end before) at (now .joined))
+
+-- ---- Stretches that are read from one list and written, changed once more, into another: N1 with N2, and the levels
+
+map-fill : (f : ℕ → ℕ) (n v : ℕ) (rest : List ℕ) → map f (replicate n v ++ rest) ≡ replicate n (f v) ++ map f rest
+map-fill f zero v rest = refl
+map-fill f (suc n) v rest = ap (λ (r : List ℕ). f v ∷ r) (map-fill f n v rest)
+
+-- what is written up to i, then what is to be written for what is left, is what is to be written for all
+pub record Spread (f : ℕ → ℕ) (test : ℕ → Bool) (change : ℕ → ℕ → ℕ → ℕ) (end start : ℕ) (xs out : List ℕ) (before i : ℕ) : Type 0 where
+  pub within : i ≤ length xs
+  pub long : length out ≡ length xs
+  pub joined : take i out ++ map f (stretches test change before end (drop i xs)) ≡ map f (stretches test change start end xs)
+
+module _ {f : ℕ → ℕ} {test : ℕ → Bool} {change : ℕ → ℕ → ℕ → ℕ} {end : ℕ} where
+  pub spread-begun : (start : ℕ) (xs out : List ℕ) → length out ≡ length xs → Spread f test change end start xs out start 0
+  spread-begun start xs out same = record { within = omega arith; long = same; joined = refl }
+
+  -- a type that fails the test is changed by f alone, and is the one before what follows
+  pub spread-over : {start : ℕ} {xs out : List ℕ} {before i v : ℕ} → Spread f test change end start xs out before i → i < length xs → test (getD xs i 0) ≡ false → v ≡ f (getD xs i 0) → Spread f test change end start xs (set out i v) (getD xs i 0) (i + 1)
+  spread-over {start} {xs} {out} {before} {i} {v} now below fails wrote =
+      let room : i < length out = omega (arith, now .long) in
+      record {
+        within = omega arith;
+        long = length-set out i v ∙ now .long;
+        joined =
+            take-set-next out i v (map f (stretches test change (getD xs i 0) end (drop (i + 1) xs))) room
+            ∙ ap (λ (x : ℕ). take i out ++ (x ∷ map f (stretches test change (getD xs i 0) end (drop (i + 1) xs)))) wrote
+            ∙ ap (λ (r : List ℕ). take i out ++ map f r) (sym (stretches-over test change end before (getD xs i 0) (drop (i + 1) xs) fails) ∙ ap (stretches test change before end) (sym (drop-next xs i below)))
+            ∙ now .joined;
+      }
+
+  -- a stretch that begins at i and ends at e is filled by f of what its change gives every type of it
+  module _ {start : ℕ} {xs out ys : List ℕ} {before i e u v : ℕ} (now : Spread f test change end start xs out before i) (ends : e ≡ i + span test (drop i xs)) (same : (t : ℕ) → test t ≡ true → change before (getD xs e end) t ≡ u) (wrote : v ≡ f u) (fill : ys ≡ replicate (length (midOf i (e - i) out)) v) where
+    spread-bounds : (i ≤ e) × (e ≤ length xs)
+    spread-bounds = span-end test xs i e (now .within) ends
+
+    spread-room : e ≤ length out
+    spread-room = omega (arith, spread-bounds, now .long)
+
+    spread-fill : ys ≡ replicate (e - i) (f u)
+    spread-fill = fill ∙ ap (λ (n : ℕ). replicate n v) (mid-len i e out spread-room) ∙ ap (replicate (e - i)) wrote
+
+    spread-length : length ys ≡ e - i
+    spread-length = ap length spread-fill ∙ length-replicate (e - i) (f u)
+
+    spread-rest : ys ++ map f (stretches test change before end (drop e xs)) ≡ map f (stretches test change before end (drop i xs))
+    spread-rest =
+        ap (λ (r : List ℕ). r ++ map f (stretches test change before end (drop e xs))) spread-fill
+        ∙ sym (map-fill f (e - i) u (stretches test change before end (drop e xs)))
+        ∙ ap (map f) (sym (stretch-parted test change end xs before i e u (spread-bounds .0) ends same))
+
+    pub spread-filled : Spread f test change end start xs (putMid i (e - i) out ys) before e
+    spread-filled =
+        record {
+          within = spread-bounds .1;
+          long = same-len-mid i (e - i) out ys (spread-length ∙ sym (mid-len i e out spread-room)) ∙ now .long;
+          joined =
+              ap (λ (r : List ℕ). r ++ map f (stretches test change before end (drop e xs))) (take-put-end out ys i e (spread-bounds .0) spread-room spread-length)
+              ∙ append-assoc (take i out) ys (map f (stretches test change before end (drop e xs)))
+              ∙ ap (λ (r : List ℕ). take i out ++ r) spread-rest
+              ∙ now .joined;
+        }
+
+  pub spread-done : {start : ℕ} {xs out : List ℕ} {before i : ℕ} → Spread f test change end start xs out before i → length xs ≤ i → out ≡ map f (stretches test change start end xs)
+  spread-done {start} {xs} {out} {before} {i} now past =
+      let full : length out ≤ i = omega (arith, now .long) in
+      sym (append-nil out)
+      ∙ (rw (take-all i out full, drop-of-length-le xs past, stretches-nil test change end before) at (now .joined))

@@ -1,4 +1,4 @@
--- `resolve::runs::resolve_run` meets its contract: W, then N, then I, one after the other.
+-- `resolve::runs::resolve_run` meets its contract: W, then N with I, one after the other.
 -- Assumes nothing.
 use Prim.Native.Nat.{ℕ}
 use mathlib.Core.Path.{_∙_, ap}
@@ -13,11 +13,8 @@ use Rattle.resolve.proofs.runs.resolve_run.Tie as tie
 weak-requires : tie.Need-weak-requires
 weak-requires c κs = search needs
 
-resolve-neutrals-requires : tie.Need-resolve-neutrals-requires
-resolve-neutrals-requires c κs = search needs
-
-implicit-levels-requires : tie.Need-implicit-levels-requires
-implicit-levels-requires c κs = search needs
+neutral-levels-requires : tie.Need-neutral-levels-requires
+neutral-levels-requires c κs = search needs
 
 same-length : tie.Need-same-length
 same-length c = search needs
@@ -28,18 +25,11 @@ same-length-2 c = search needs
 returns : tie.Need-returns
 unfolding resolveRun
 returns c =
-    let a = c .before .before .before .before .before .before .before .before .before .before .before .before .before .before .before .args in
-    c .before .before .implicit-levels .ensures
-    ∙ ap (λ (ts : List ℕ). map (implicitLevel (a .level)) ts)
-    (c .before .before .before .before .before .before .before .resolve-neutrals .ensures ∙ ap (λ (ts : List ℕ). N2 (a .level) (N1 (a .sor) (a .eor) ts)) (c .before .before .before .before .before .before .before .before .before .before .before .weak .ensures))
+    let after = c .before .before .before .before .before .before .before in
+    let a = after .before .before .before .before .args in
+    c .before .before .neutral-levels .ensures
+    ∙ ap (λ (ts : List ℕ). map (implicitLevel (a .level)) (N2 (a .level) (N1 (a .sor) (a .eor) ts))) (after .weak .ensures)
 
 pub resolve-run-spec : {M : Type 1} → statement M
 resolve-run-spec =
-    tie.close
-    (tie.spec
-    weak-requires
-    resolve-neutrals-requires
-    implicit-levels-requires
-    same-length
-    same-length-2
-    returns)
+    tie.close (tie.spec weak-requires neutral-levels-requires same-length same-length-2 returns)
