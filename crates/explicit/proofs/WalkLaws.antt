@@ -2,12 +2,14 @@
 use Prim.Native.Nat.{ℕ, _+_, _≤_, _<_}
 use native.Mathlib.Omega.{arith}
 use mathlib.Core.Path.{_≡_, sym, ap, _∙_}
-use mathlib.Core.Bool.{true, false}
+use mathlib.Core.Bool.{true, false, _||_}
 use mathlib.Core.List.{List, [], _∷_}
+use lib.Dec.{eqb}
 use lib.ListN.{length, getD, drop, set, drop-of-length-le}
 use Rattle.rules.proofs.Lists.{drop-next}
-use Rattle.rules.specs.Classes.{isRemoved}
-use Rattle.rules.specs.Explicit.{State, step, kept}
+use Rattle.rules.proofs.Any.{neither}
+use Rattle.rules.specs.Classes.{LRE, LRO, RLE, RLO, PDF, BN, isOpening, isRemoved}
+use Rattle.rules.specs.Explicit.{State, verdict, after, step, kept}
 use Rattle.explicit.specs.declared.machine.Machine.{Machine}
 use Rattle.explicit.specs.Meaning.{Sound, counts, Stands}
 use Rattle.explicit.proofs.ExplicitLaws.{kept-none, kept-removed, kept-kept}
@@ -25,6 +27,21 @@ walk-begun cs t = record { within = omega arith; sound = t .sound; counted = t .
 pub walk-next : {cs : List ℕ} {m r : Machine} {s : State} {i : ℕ} → i < length cs → Stands r s (counts m + 1) → Walk cs m i
     → Walk cs r (i + 1)
 walk-next h t w = record { within = omega arith; sound = t .sound; counted = omega arith }
+
+-- a kept position passed: the machine is as it was
+pub walk-stays : {cs : List ℕ} {m : Machine} {i : ℕ} → i < length cs → Walk cs m i → Walk cs m (i + 1)
+walk-stays h w = record { within = omega arith; sound = w .sound; counted = omega (arith, w .counted) }
+
+-- no step of the rules moves at a kept position
+pub kept-stays : (s : State) (c : ℕ) → isRemoved c ≡ false → s ≡ step s c
+unfolding isRemoved isOpening step verdict after
+kept-stays s c stays =
+    let kinds = neither (eqb c LRE || eqb c LRO || eqb c RLE || eqb c RLO || eqb c PDF) (eqb c BN) stays .0 in
+    let codes = neither (eqb c LRE || eqb c LRO || eqb c RLE || eqb c RLO) (eqb c PDF) kinds in
+    let opens = neither (eqb c LRE || eqb c LRO || eqb c RLE) (eqb c RLO) (codes .0) in
+    let embeds = neither (eqb c LRE || eqb c LRO) (eqb c RLE) (opens .0) in
+    let first = neither (eqb c LRE) (eqb c LRO) (embeds .0) in
+    rw (embeds .1, first .0, opens .1, first .1, codes .1)
 
 -- nothing is written yet
 pub phase-begun : (phase : State → List ℕ → List ℕ) (cs before : List ℕ) {s t : State} → s ≡ t

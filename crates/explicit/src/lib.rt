@@ -1,4 +1,5 @@
-// Explicit levels and directions, rules X1 to X9: two walks along a paragraph, which step the machine once a position.
+// Explicit levels and directions, rules X1 to X9: two walks along a paragraph. A kept position leaves the machine as it
+// is, so they step it at the removed ones alone.
 ghost use mathlib.Core.Path.{_≡_};
 ghost use Prim.Native.Nat.{_≤_};
 ghost use lib.ListN.{length};
@@ -20,8 +21,10 @@ pub fn explicit_levels(classes: &[u8], base: u8, levels: &mut [u8])
     while at < classes.len() {
         let class = classes[at];
         levels[at] = machine.level_here(base, class);
-        machine = machine.step(class);
         at += 1;
+        if classes::is_removed(class) {
+            machine = machine.step(class);
+        }
     }
 }
 
@@ -36,13 +39,12 @@ pub fn gather(classes: &[u8], base: u8, levels: &mut [u8], types: &mut [u8]) -> 
     let mut i: usize = 0;
     while i < classes.len() {
         let class = classes[i];
-        let here = machine.level_here(base, class);
-        let kind = machine.type_here(class);
-        machine = machine.step(class);
         i += 1;
-        if !classes::is_removed(class) {
-            levels[k] = here;
-            types[k] = kind;
+        if classes::is_removed(class) {
+            machine = machine.step(class);
+        } else {
+            levels[k] = machine.level_here(base, class);
+            types[k] = machine.type_here(class);
             k += 1;
         }
     }

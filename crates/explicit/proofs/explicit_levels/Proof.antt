@@ -6,8 +6,9 @@ use lib.ListN.{length, drop}
 use Rattle.rules.specs.Explicit.{X1, levelHere, explicitLevels}
 use Rattle.explicit.specs.Meaning.{meaning}
 use Rattle.explicit.proofs.ExplicitLaws.{levels-none, levels-more}
+use Rattle.rules.proofs.Tests.{known}
 use Rattle.rules.proofs.Filling.{Filled, filled-all}
-use Rattle.explicit.proofs.WalkLaws.{Walk, walk-begun, walk-next, phase-begun, phase-written, phase-ended}
+use Rattle.explicit.proofs.WalkLaws.{Walk, walk-begun, walk-next, walk-stays, kept-stays, phase-begun, phase-written, phase-ended}
 use borrow.Author.Needs.{needs}
 use Rattle.explicit.proofs.explicit_levels.Statement.{statement}
 use Rattle.explicit.proofs.explicit_levels.Tie as tie
@@ -35,22 +36,37 @@ level-here-requires c κs = search needs
 slice-write-levels : tie.Need-slice-write-levels Inv-loop μ-loop
 slice-write-levels c = omega arith
 
-step-requires : tie.Need-step-requires Inv-loop μ-loop
-step-requires c κs = (c .before .before .before .loop .inv .0 .sound, omega arith)
-
 add-at : tie.Need-add-at Inv-loop μ-loop
 add-at c = search needs
+
+is-removed-requires : tie.Need-is-removed-requires Inv-loop μ-loop
+is-removed-requires c κs = search needs
+
+step-requires : tie.Need-step-requires Inv-loop μ-loop
+step-requires c κs = (c .before .before .before .before .before .loop .inv .0 .sound, omega arith)
 
 loop-less : tie.Need-loop-less Inv-loop μ-loop
 loop-less c = omega arith
 
 loop-again : tie.Need-loop-again Inv-loop μ-loop
 loop-again c =
-    let h = c .before .before .before .loop-test .taken in
-    let inv = c .before .before .before .before .loop .inv in
+    let h = c .before .before .before .before .before .loop-test .taken in
+    let inv = c .before .before .before .before .before .before .loop .inv in
     let next = c .step .ensures in (
       walk-next h next (inv .0),
-      phase-written (explicitLevels _) (levelHere _) (levels-more _) _ _ h (next .state) (omega arith) (c .before .level-here .ensures) (inv .1),
+      phase-written (explicitLevels _) (levelHere _) (levels-more _) _ _ h (next .state) (omega arith) (c .before .before .before .level-here .ensures) (inv .1),
+    )
+
+loop-less-2 : tie.Need-loop-less-2 Inv-loop μ-loop
+loop-less-2 c = omega arith
+
+loop-again-2 : tie.Need-loop-again-2 Inv-loop μ-loop
+loop-again-2 c =
+    let h = c .before .before .before .before .loop-test .taken in
+    let inv = c .before .before .before .before .before .loop .inv in
+    let stays = known (c .before .is-removed .ensures) (c .if1 .left) in (
+      walk-stays h (inv .0),
+      phase-written (explicitLevels _) (levelHere _) (levels-more _) _ _ h (kept-stays _ _ stays) (omega arith) (c .before .before .level-here .ensures) (inv .1),
     )
 
 same-length : tie.Need-same-length Inv-loop μ-loop
@@ -70,9 +86,12 @@ explicit-levels-spec =
     shared-slice-read-class
     level-here-requires
     slice-write-levels
-    step-requires
     add-at
+    is-removed-requires
+    step-requires
     loop-less
     loop-again
+    loop-less-2
+    loop-again-2
     same-length
     returns)
