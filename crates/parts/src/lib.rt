@@ -1,8 +1,10 @@
 // What the rules on stretches and runs share, over plain slices.
 ghost use mathlib.Core.Path.{_≡_};
 ghost use mathlib.Core.Bool.{_||_};
+ghost use Prim.Native.Nat.{_≤_};
 ghost use lib.ListN.{length, getD, replicate};
 ghost use Rattle.rules.specs.Classes.{isRemoved};
+ghost use Rattle.rules.specs.Jobs.{over};
 ghost use Rattle.rules.proofs.Any.{anyOf};
 
 // The element at `i`; past the end, what stands there: for the types of a run its end type, for levels the base.
@@ -23,6 +25,18 @@ pub fn fill(part: &mut [u8], t: u8)
     while i < part.len() {
         part[i] = t;
         i += 1;
+    }
+}
+
+// The rest of the longer one stays as it was.
+pub fn copy(from: &[u8], to: &mut [u8])
+    requires { ⌜ length (now from) ≤ length (now to) ⌝ }
+    ensures { λ _. ⌜ now (to .exit) ≡ over (now (from .entry)) (now (to .entry)) ⌝ }
+{
+    let mut at: usize = 0;
+    while at < from.len() {
+        to[at] = from[at];
+        at += 1;
     }
 }
 

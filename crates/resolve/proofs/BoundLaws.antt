@@ -64,7 +64,7 @@ runs-low base before levels types (n ∷ ns) h p =
     (runs-low base (headOr base levels) (drop n levels) (drop n types) ns h (at-most-drop 61 n levels p))
 
 -- ---- as many levels as positions
-length-run : (level sor eor : ℕ) (ts : List ℕ) → length (resolveRun level sor eor ts) ≡ length ts
+pub length-run : (level sor eor : ℕ) (ts : List ℕ) → length (resolveRun level sor eor ts) ≡ length ts
 unfolding resolveRun
 length-run level sor eor ts = length-implicit level (N2 level (N1 sor eor (weak sor eor ts))) ∙ length-N level sor eor (weak sor eor ts) ∙ length-weak sor eor ts
 

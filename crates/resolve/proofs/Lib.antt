@@ -3,3 +3,4 @@ pub mod ScatterLaws
 pub mod KeptLaws
 pub mod WholeLaws
 pub mod BoundLaws
+pub mod PlainLaws

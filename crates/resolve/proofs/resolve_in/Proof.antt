@@ -1,32 +1,14 @@
--- `resolve::resolve_in` meets its contract: what was gathered, resolved and put back in turn is the resolved levels.
--- Assumes nothing.
-use mathlib.Core.Path.{sym}
-use lib.Seq.{length-take-le}
-use Rattle.resolve.proofs.WholeLaws.{within-levels, within-types, fronts-equal, front-low, count-kept, back-room, resolved-whole}
+-- `resolve::resolve_in` meets its contract: either way does. Assumes nothing.
+use Rattle.rules.proofs.Tests.{known}
 use borrow.Author.Needs.{needs}
 use Rattle.resolve.proofs.resolve_in.Statement.{statement}
 use Rattle.resolve.proofs.resolve_in.Tie as tie
 
-gather-requires : tie.Need-gather-requires
-gather-requires c κs = search needs
+any-removed-requires : tie.Need-any-removed-requires
+any-removed-requires c κs = search needs
 
-slice-relend-prefix-resolve-kept : tie.Need-slice-relend-prefix-resolve-kept
-slice-relend-prefix-resolve-kept c = within-types (c .before .before .before .before .gather .ensures) (c .before .before .before .before .before .before .before .before .before .before .pre .0) (c .before .before .before .before .before .before .before .before .before .before .pre .1) (c .before .before .before .before .before .before .before .before .before .before .pre .2)
-
-slice-aggregate-resolve-kept : tie.Need-slice-aggregate-resolve-kept
-slice-aggregate-resolve-kept c = sym (length-take-le _ _ (within-types (c .before .before .before .before .before .gather .ensures) (c .before .before .before .before .before .before .before .before .before .before .before .pre .0) (c .before .before .before .before .before .before .before .before .before .before .before .pre .1) (c .before .before .before .before .before .before .before .before .before .before .before .pre .2)))
-
-slice-relend-prefix-resolve-kept-2 : tie.Need-slice-relend-prefix-resolve-kept-2
-slice-relend-prefix-resolve-kept-2 c = within-levels (c .before .before .before .before .before .gather .ensures) (c .before .before .before .before .before .before .before .before .before .before .before .pre .0) (c .before .before .before .before .before .before .before .before .before .before .before .pre .1) (c .before .before .before .before .before .before .before .before .before .before .before .pre .2)
-
-slice-aggregate-resolve-kept-2 : tie.Need-slice-aggregate-resolve-kept-2
-slice-aggregate-resolve-kept-2 c = sym (length-take-le _ _ (within-levels (c .before .before .before .before .before .before .gather .ensures) (c .before .before .before .before .before .before .before .before .before .before .before .before .pre .0) (c .before .before .before .before .before .before .before .before .before .before .before .before .pre .1) (c .before .before .before .before .before .before .before .before .before .before .before .before .pre .2)))
-
-resolve-kept-requires : tie.Need-resolve-kept-requires
-resolve-kept-requires c κs = (fronts-equal (c .before .before .before .before .before .before .gather .ensures) (c .before .before .before .before .before .before .before .before .before .before .before .before .pre .0) (c .before .before .before .before .before .before .before .before .before .before .before .before .pre .1) (c .before .before .before .before .before .before .before .before .before .before .before .before .pre .2), front-low (c .before .before .before .before .before .before .gather .ensures) (c .before .before .before .before .before .before .before .before .before .before .before .before .pre .0) (c .before .before .before .before .before .before .before .before .before .before .before .before .pre .1) (c .before .before .before .before .before .before .before .before .before .before .before .before .pre .2))
-
-put-back-requires : tie.Need-put-back-requires
-put-back-requires c κs = (count-kept (c .before .before .before .before .before .before .before .before .before .before .before .before .gather .ensures) (c .before .before .before .before .before .before .before .before .before .before .before .before .before .before .before .before .before .before .pre .0) (c .before .before .before .before .before .before .before .before .before .before .before .before .before .before .before .before .before .before .pre .1) (c .before .before .before .before .before .before .before .before .before .before .before .before .before .before .before .before .before .before .pre .2), back-room (c .before .before .before .before .before .before .before .before .before .before .before .before .gather .ensures) (c .before .before .before .before .before .before .before .before .before .before .before .before .before .before .before .before .before .before .pre .0) (c .before .before .before .before .before .before .before .before .before .before .before .before .before .before .before .before .before .before .pre .1) (c .before .before .before .before .before .before .before .before .before .before .before .before .before .before .before .before .before .before .pre .2) (c .before .before .before .before .before .resolve-kept .last .1 .0) (c .before .before .before .before .before .resolve-kept .kept .1 .0))
+resolve-gathered-requires : tie.Need-resolve-gathered-requires
+resolve-gathered-requires c κs = search needs
 
 same-length : tie.Need-same-length
 same-length c = search needs
@@ -35,19 +17,30 @@ same-length-2 : tie.Need-same-length-2
 same-length-2 c = search needs
 
 returns : tie.Need-returns
-returns c = resolved-whole (c .before .before .before .before .before .before .before .before .before .before .before .before .before .before .before .gather .ensures) (c .before .before .before .before .before .before .before .before .before .before .before .before .before .before .before .before .before .before .before .before .before .pre .0) (c .before .before .before .before .before .before .before .before .before .before .before .before .before .before .before .before .before .before .before .before .before .pre .1) (c .before .before .before .before .before .before .before .before .before .before .before .before .before .before .before .before .before .before .before .before .before .pre .2) (c .before .before .before .before .before .before .before .before .resolve-kept .last .1 .0) _ (c .before .before .before .before .before .before .before .before .resolve-kept .kept .1 .0) (c .before .before .before .before .before .before .before .before .resolve-kept .ensures) (c .before .before .put-back .ensures)
+returns c = search needs
+
+resolve-plain-requires : tie.Need-resolve-plain-requires
+resolve-plain-requires c κs = (c .before .before .before .before .before .before .before .pre, known (c .before .before .before .any-removed .ensures) (c .before .before .if1 .left))
+
+same-length-3 : tie.Need-same-length-3
+same-length-3 c = search needs
+
+same-length-4 : tie.Need-same-length-4
+same-length-4 c = search needs
+
+returns-2 : tie.Need-returns-2
+returns-2 c = search needs
 
 pub resolve-in-spec : {M : Type 1} → statement M
 resolve-in-spec =
     tie.close
     (tie.spec
-    gather-requires
-    slice-relend-prefix-resolve-kept
-    slice-aggregate-resolve-kept
-    slice-relend-prefix-resolve-kept-2
-    slice-aggregate-resolve-kept-2
-    resolve-kept-requires
-    put-back-requires
+    any-removed-requires
+    resolve-gathered-requires
     same-length
     same-length-2
-    returns)
+    returns
+    resolve-plain-requires
+    same-length-3
+    same-length-4
+    returns-2)
