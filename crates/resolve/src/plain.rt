@@ -7,7 +7,6 @@ ghost use Rattle.rules.specs.Classes.{isRemoved};
 ghost use Rattle.rules.specs.Jobs.{over};
 ghost use Rattle.rules.specs.Resolve.{resolvedLevels};
 ghost use Rattle.rules.proofs.Any.{anyOf};
-
 use crate::runs::boundary_type;
 use crate::runs::resolve_run;
 
