@@ -1,6 +1,7 @@
 // The classes by name, and each question that the rules ask of a class: one function for each test
 // of the definitions, so that no other code looks at a class number.
 ghost use mathlib.Core.Path.{_≡_};
+ghost use Prim.Native.Nat.{_<_, min};
 ghost use Rattle.rules.specs.Classes.{isUnknown, isParagraphEnd, isOpening, isRemoved, isStrong, isNeutral, isSeparator, isBlank};
 
 pub const L: u8 = 0;
@@ -124,4 +125,15 @@ pub fn is_blank(c: u8) -> bool
     ensures { λ r. ⌜ r ≡ isBlank c ⌝ }
 {
     c == WS
+}
+
+// Where a class stands in a table by class: at its own number, and all that is no class at the place behind them.
+pub fn place_of(c: u8) -> usize
+    ensures { λ r. ⌜ r ≡ min c 19 ⌝ }
+    ensures { λ r. ⌜ r < 20 ⌝ }
+{
+    if c < 19 {
+        return c as usize;
+    }
+    19
 }

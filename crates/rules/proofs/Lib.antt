@@ -3,5 +3,6 @@ pub mod Determined
 pub mod Tests
 pub mod Lists
 pub mod Any
+pub mod Table
 pub mod Passes
 pub mod Filling

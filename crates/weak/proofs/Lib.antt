@@ -1,5 +1,6 @@
 -- What holds of the weak rules.
 pub mod WeakLaws
+pub mod TableLaws
 pub mod EarlyLaws
 pub mod LateLaws
 pub mod TouchedLaws

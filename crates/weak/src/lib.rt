@@ -9,6 +9,13 @@ ghost use Rattle.rules.proofs.Any.{anyOf};
 ghost use Rattle.rules.proofs.Passes.{span};
 ghost use Rattle.weak.specs.Steps.{changeW1, changeW2, strongW2, changeW7, strongW7, isTouched};
 
+mod steps;
+
+use steps::change_w2_w3;
+use steps::change_w6_w7;
+use steps::strong_w2;
+use steps::strong_w7;
+
 fn change_w1(before: u8, t: u8) -> u8
     ensures { λ r. ⌜ r ≡ changeW1 before t ⌝ }
 {
@@ -18,44 +25,14 @@ fn change_w1(before: u8, t: u8) -> u8
     t
 }
 
-fn change_w2(strong: u8, t: u8) -> u8
-    ensures { λ r. ⌜ r ≡ changeW2 strong t ⌝ }
-{
-    if t == classes::EN {
-        if strong == classes::AL {
-            return classes::AN;
-        }
-        return t;
-    }
-    t
-}
-
-fn strong_w2(strong: u8, t: u8) -> u8
-    ensures { λ r. ⌜ r ≡ strongW2 strong t ⌝ }
-{
-    if classes::is_strong(t) {
-        return t;
-    }
-    strong
-}
-
-fn change_w3(t: u8) -> u8
-    ensures { λ r. ⌜ r ≡ changeW3 t ⌝ }
-{
-    if t == classes::AL {
-        return classes::R;
-    }
-    t
-}
-
-// Only between equal types does a separator change: that is asked first, then which number they are.
+// Most types are no separators: that is asked first. One changes only between equal types.
 fn change_w4(before: u8, t: u8, next: u8) -> u8
     ensures { λ r. ⌜ r ≡ changeW4 before t next ⌝ }
 {
-    if before != next {
-        return t;
-    }
     if t == classes::CS {
+        if before != next {
+            return t;
+        }
         if before == classes::EN {
             return classes::EN;
         }
@@ -65,6 +42,9 @@ fn change_w4(before: u8, t: u8, next: u8) -> u8
         return t;
     }
     if t == classes::ES {
+        if before != next {
+            return t;
+        }
         if before == classes::EN {
             return classes::EN;
         }
@@ -83,13 +63,13 @@ fn w1_to_w4(types: &mut [u8], sor: u8, eor: u8)
     }
     // at i: after W1, after W3, and the strong type for what follows; at i - 1: after W3
     let mut own = change_w1(sor, types[0]);
-    let mut here = change_w3(change_w2(sor, own));
+    let mut here = change_w2_w3(sor, own);
     let mut strong = strong_w2(sor, own);
     let mut before = sor;
     let mut i = 0;
     while i + 1 < types.len() {
         own = change_w1(own, types[i + 1]);
-        let next = change_w3(change_w2(strong, own));
+        let next = change_w2_w3(strong, own);
         strong = strong_w2(strong, own);
         types[i] = change_w4(before, here, next);
         before = here;
@@ -126,45 +106,6 @@ fn change_w5(before: u8, next: u8) -> u8
     classes::ET
 }
 
-fn change_w6(t: u8) -> u8
-    ensures { λ r. ⌜ r ≡ changeW6 t ⌝ }
-{
-    if t == classes::ES {
-        return classes::ON;
-    }
-    if t == classes::ET {
-        return classes::ON;
-    }
-    if t == classes::CS {
-        return classes::ON;
-    }
-    t
-}
-
-fn change_w7(strong: u8, t: u8) -> u8
-    ensures { λ r. ⌜ r ≡ changeW7 strong t ⌝ }
-{
-    if t == classes::EN {
-        if strong == classes::L {
-            return classes::L;
-        }
-        return t;
-    }
-    t
-}
-
-fn strong_w7(strong: u8, t: u8) -> u8
-    ensures { λ r. ⌜ r ≡ strongW7 strong t ⌝ }
-{
-    if t == classes::R {
-        return t;
-    }
-    if t == classes::L {
-        return t;
-    }
-    strong
-}
-
 // W5 to W7 in one pass: a stretch of ET is filled with what all three make of it. Its end is sought once, from its
 // first place: the pass stays linear.
 fn w5_to_w7(types: &mut [u8], sor: u8, eor: u8)
@@ -180,11 +121,11 @@ fn w5_to_w7(types: &mut [u8], sor: u8, eor: u8)
             let next = parts::element_or(types, end, eor);
             parts::fill(
                 &mut types[i..end],
-                change_w7(strong, change_w6(change_w5(before, next))),
+                change_w6_w7(strong, change_w5(before, next)),
             );
             i = end;
         } else {
-            types[i] = change_w7(strong, change_w6(t));
+            types[i] = change_w6_w7(strong, t);
             strong = strong_w7(strong, t);
             before = t;
             i += 1;

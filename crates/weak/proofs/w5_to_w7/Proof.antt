@@ -49,33 +49,27 @@ part-fill-end c = found (c .before .before) .1
 change-w5-requires : tie.Need-change-w5-requires Inv-loop μ-loop
 change-w5-requires c κs = search needs
 
-change-w6-requires : tie.Need-change-w6-requires Inv-loop μ-loop
-change-w6-requires c κs = search needs
-
-change-w7-requires : tie.Need-change-w7-requires Inv-loop μ-loop
-change-w7-requires c κs = search needs
+change-w6-w7-requires : tie.Need-change-w6-w7-requires Inv-loop μ-loop
+change-w6-w7-requires c κs = search needs
 
 fill-requires : tie.Need-fill-requires Inv-loop μ-loop
 fill-requires c κs = search needs
 
 loop-less : tie.Need-loop-less Inv-loop μ-loop
 loop-less c =
-    let e = c .before .before .before .before .before .before .before .before .before in
+    let e = c .before .before .before .before .before .before .before .before in
     omega (arith, found e, e .before .before .before .before .before .loop .inv .long)
 
 loop-again : tie.Need-loop-again Inv-loop μ-loop
 loop-again c =
-    let e = c .before .before .before .before .before .before .before .before .before in
+    let e = c .before .before .before .before .before .before .before .before in
     let at = e .before .before .before .before .before in
-    late-filled (at .loop .inv) (e .terminators-end .ensures) (c .before .before .before .before .before .before .before .element-or .ensures)
-    (c .before .before .before .change-w7 .ensures ∙ ap (changeW7 (at .loop .strong)) (c .before .before .before .before .change-w6 .ensures ∙ ap changeW6 (c .before .before .before .before .before .change-w5 .ensures)))
+    late-filled (at .loop .inv) (e .terminators-end .ensures) (c .before .before .before .before .before .before .element-or .ensures)
+    (c .before .before .before .change-w6-w7 .ensures ∙ ap (λ t. changeW7 (at .loop .strong) (changeW6 t)) (c .before .before .before .before .change-w5 .ensures))
     (c .before .before .fill .ensures)
 
-change-w6-requires-2 : tie.Need-change-w6-requires-2 Inv-loop μ-loop
-change-w6-requires-2 c κs = search needs
-
-change-w7-requires-2 : tie.Need-change-w7-requires-2 Inv-loop μ-loop
-change-w7-requires-2 c κs = search needs
+change-w6-w7-requires-2 : tie.Need-change-w6-w7-requires-2 Inv-loop μ-loop
+change-w6-w7-requires-2 c κs = search needs
 
 slice-write-types : tie.Need-slice-write-types Inv-loop μ-loop
 slice-write-types c = search needs
@@ -92,9 +86,9 @@ loop-less-2 c = search needs
 loop-again-2 : tie.Need-loop-again-2 Inv-loop μ-loop
 unfolding isTerminator
 loop-again-2 c =
-    let at = c .before .before .before .before .before in
-    late-next (at .before .loop .inv) (at .loop-test .taken) (ne-eqb _ _ (c .before .before .before .if1 .left))
-    (c .before .change-w72 .ensures ∙ ap (changeW7 (at .before .loop .strong)) (c .before .before .change-w62 .ensures)) (c .strong-w7 .ensures)
+    let at = c .before .before .before .before in
+    late-next (at .before .loop .inv) (at .loop-test .taken) (ne-eqb _ _ (c .before .before .if1 .left))
+    (c .before .change-w6-w72 .ensures) (c .strong-w7 .ensures)
 
 same-length : tie.Need-same-length Inv-loop μ-loop
 same-length c = search needs
@@ -116,13 +110,11 @@ w5-to-w7-spec =
     part-fill-start
     part-fill-end
     change-w5-requires
-    change-w6-requires
-    change-w7-requires
+    change-w6-w7-requires
     fill-requires
     loop-less
     loop-again
-    change-w6-requires-2
-    change-w7-requires-2
+    change-w6-w7-requires-2
     slice-write-types
     strong-w7-requires
     add-i
