@@ -1,19 +1,21 @@
--- The tables of src/steps.rt and their rules: where a type changes, and what it becomes. Each rule is computed over its
--- whole table here, and holds at the entry of any type. Assumes nothing.
+-- The rules of the tables: where a type changes, and what it becomes. Each is computed over its whole rows here, and holds
+-- at the entry of any type. Assumes nothing.
 use Prim.Native.Nat.{ℕ, _+_, _*_, _≤_, _<_, min}
 use native.Mathlib.Nat.{le-refl, mul-one, mul-zero}
 use native.Mathlib.Omega.{arith}
 use mathlib.Core.Bool.{Bool, true, false, _||_, _&&_}
-use mathlib.Core.Path.{_≡_, refl, subst}
-use mathlib.Core.List.{List, [], _∷_}
+use mathlib.Core.Path.{_≡_, refl}
+use mathlib.Core.List.{List}
 use borrow.Author.Tests.{eqb-true}
 use lib.Dec.{eqb}
 use lib.ListN.{getD, drop}
+use lib.Seq.{getD-drop}
 use Rattle.rules.specs.Choice.{if_then_else_}
 use Rattle.rules.specs.Classes.{L, R, AL, EN, ES, ET, AN, CS, ON, isStrong}
 use Rattle.rules.specs.Weak.{changeW3, changeW6}
 use Rattle.rules.proofs.Passes.{by-test}
 use Rattle.rules.proofs.Table.{Follows, Flat, no-class, at-class, at-row}
+use Rattle.weak.specs.Tables.{early, late}
 use Rattle.weak.specs.Steps.{changeW2, strongW2, changeW7, strongW7}
 
 -- ---- the two tables of a rule: 1 where the old type stays, and else what it becomes
@@ -60,42 +62,6 @@ module _ (new : ℕ → ℕ) (ks gs : List ℕ) where
       (rw at (at-row (λ c. keepsBy (changed c)) ks k₁ k₂ (λ c. keeps-flat (changed c) (only c)) b t row is))
       (rw at (at-row (λ c. givesBy (changed c) new) gs g₁ g₂ (λ c. gives-flat (changed c) new (only c)) b t row is)) h n
 
-abbrev keepsW3 : List ℕ
-keepsW3 =
-    1 ∷ 1 ∷ 1 ∷ 1 ∷ 0 ∷ 1 ∷ 1 ∷ 1 ∷ 1 ∷ 1 ∷ 1 ∷ 1 ∷ 1 ∷ 1 ∷ 1 ∷ 1 ∷ 1 ∷ 1 ∷ 1 ∷ 1
-    ∷ 1 ∷ 1 ∷ 1 ∷ 1 ∷ 0 ∷ 1 ∷ 1 ∷ 1 ∷ 0 ∷ 1 ∷ 1 ∷ 1 ∷ 1 ∷ 1 ∷ 1 ∷ 1 ∷ 1 ∷ 1 ∷ 1 ∷ 1 ∷ []
-
-abbrev givesW3 : List ℕ
-givesW3 =
-    0 ∷ 0 ∷ 0 ∷ 0 ∷ 3 ∷ 0 ∷ 0 ∷ 0 ∷ 0 ∷ 0 ∷ 0 ∷ 0 ∷ 0 ∷ 0 ∷ 0 ∷ 0 ∷ 0 ∷ 0 ∷ 0 ∷ 0
-    ∷ 0 ∷ 0 ∷ 0 ∷ 0 ∷ 3 ∷ 0 ∷ 0 ∷ 0 ∷ 11 ∷ 0 ∷ 0 ∷ 0 ∷ 0 ∷ 0 ∷ 0 ∷ 0 ∷ 0 ∷ 0 ∷ 0 ∷ 0 ∷ []
-
-abbrev keepsStrong : List ℕ
-keepsStrong =
-    0 ∷ 1 ∷ 1 ∷ 0 ∷ 0 ∷ 1 ∷ 1 ∷ 1 ∷ 1 ∷ 1 ∷ 1 ∷ 1 ∷ 1 ∷ 1 ∷ 1 ∷ 1 ∷ 1 ∷ 1 ∷ 1 ∷ 1 ∷ []
-
-abbrev givesStrong : List ℕ
-givesStrong =
-    0 ∷ 0 ∷ 0 ∷ 3 ∷ 4 ∷ 0 ∷ 0 ∷ 0 ∷ 0 ∷ 0 ∷ 0 ∷ 0 ∷ 0 ∷ 0 ∷ 0 ∷ 0 ∷ 0 ∷ 0 ∷ 0 ∷ 0 ∷ []
-
-abbrev keepsW7 : List ℕ
-keepsW7 =
-    1 ∷ 1 ∷ 1 ∷ 1 ∷ 1 ∷ 1 ∷ 1 ∷ 1 ∷ 1 ∷ 0 ∷ 0 ∷ 1 ∷ 0 ∷ 1 ∷ 1 ∷ 1 ∷ 1 ∷ 1 ∷ 1 ∷ 1
-    ∷ 1 ∷ 1 ∷ 1 ∷ 1 ∷ 1 ∷ 1 ∷ 1 ∷ 1 ∷ 0 ∷ 0 ∷ 0 ∷ 1 ∷ 0 ∷ 1 ∷ 1 ∷ 1 ∷ 1 ∷ 1 ∷ 1 ∷ 1 ∷ []
-
-abbrev givesW7 : List ℕ
-givesW7 =
-    0 ∷ 0 ∷ 0 ∷ 0 ∷ 0 ∷ 0 ∷ 0 ∷ 0 ∷ 0 ∷ 18 ∷ 18 ∷ 0 ∷ 18 ∷ 0 ∷ 0 ∷ 0 ∷ 0 ∷ 0 ∷ 0 ∷ 0
-    ∷ 0 ∷ 0 ∷ 0 ∷ 0 ∷ 0 ∷ 0 ∷ 0 ∷ 0 ∷ 0 ∷ 18 ∷ 18 ∷ 0 ∷ 18 ∷ 0 ∷ 0 ∷ 0 ∷ 0 ∷ 0 ∷ 0 ∷ 0 ∷ []
-
-abbrev keepsSide : List ℕ
-keepsSide =
-    0 ∷ 1 ∷ 1 ∷ 0 ∷ 1 ∷ 1 ∷ 1 ∷ 1 ∷ 1 ∷ 1 ∷ 1 ∷ 1 ∷ 1 ∷ 1 ∷ 1 ∷ 1 ∷ 1 ∷ 1 ∷ 1 ∷ 1 ∷ []
-
-abbrev givesSide : List ℕ
-givesSide =
-    0 ∷ 0 ∷ 0 ∷ 3 ∷ 0 ∷ 0 ∷ 0 ∷ 0 ∷ 0 ∷ 0 ∷ 0 ∷ 0 ∷ 0 ∷ 0 ∷ 0 ∷ 0 ∷ 0 ∷ 0 ∷ 0 ∷ 0 ∷ []
-
 -- ---- W2, then W3
 changedW3 : Bool → ℕ → Bool
 changedW3 behind t = eqb t AL || (behind && eqb t EN)
@@ -122,20 +88,23 @@ is-W3 strong t =
     (λ en. let e : t ≡ EN = eqb-true t EN en in rw e (by-test (eqb strong AL) (λ b. rw b) (λ b. rw b)))
     (λ en. by-test (eqb strong AL) (λ b. rw (al, en, b, al)) (λ b. rw (al, en, b, al))))
 
-pub picks-W3 : (strong t row place : ℕ) → row ≡ (if eqb strong AL then 20 else 0) → place ≡ min t 19 → t < 256 → Picked t (getD keepsW3 (row + place) 0) (getD givesW3 (row + place) 0) (changeW3 (changeW2 strong t))
+pub picks-W3 : (table : List ℕ) → table ≡ early → (strong t row place : ℕ) → row ≡ (if eqb strong AL then 20 else 0) → place ≡ min t 19 → t < 256 → Picked t (getD table (row + place) 0) (getD table (40 + (row + place)) 0) (changeW3 (changeW2 strong t))
 unfolding changedW3 newW3
-picks-W3 strong t row place is at h =
-    subst (Picked t (getD keepsW3 (row + place) 0) (getD givesW3 (row + place) 0)) (is-W3 strong t)
-    (pick-row newW3 keepsW3 givesW3 changedW3 refl refl refl refl only-W3 (eqb strong AL) t t row place is at h (new-W3 t))
+picks-W3 table e strong t row place is at h =
+    rw (e, ← getD-drop 40 early (row + place) 0, ← is-W3 strong t)
+    (pick-row newW3 early (drop 40 early) changedW3 refl refl refl refl only-W3 (eqb strong AL) t t row place is at h (new-W3 t))
 
 -- ---- the strong type that W2 carries
 only-strong : OnlyClasses isStrong
 unfolding isStrong
 only-strong t h = rw (no-class t L h (omega arith), no-class t R h (omega arith), no-class t AL h (omega arith))
 
-pub picks-strong : (strong t place : ℕ) → place ≡ min t 19 → strong < 256 → t < 256 → Picked strong (getD keepsStrong place 0) (getD givesStrong place 0) (strongW2 strong t)
+pub picks-strong : (table : List ℕ) → table ≡ early → (strong t place : ℕ) → place ≡ min t 19 → strong < 256 → t < 256 → Picked strong (getD table (80 + place) 0) (getD table (20 + (80 + place)) 0) (strongW2 strong t)
 unfolding strongW2 isStrong
-picks-strong strong t place at h n = pick (λ u. u) keepsStrong givesStrong isStrong refl refl only-strong strong t place at h n
+picks-strong table e strong t place at h n =
+    let last : 20 + (80 + place) ≡ 100 + place = omega arith in
+    rw (e, last, ← getD-drop 80 early place 0, ← getD-drop 100 early place 0)
+    (pick (λ u. u) (drop 80 early) (drop 100 early) isStrong refl refl only-strong strong t place at h n)
 
 -- ---- W6, then W7
 changedW7 : Bool → ℕ → Bool
@@ -169,16 +138,19 @@ is-W7 strong t =
     (λ en. let e : t ≡ EN = eqb-true t EN en in rw e (by-test (eqb strong L) (λ b. rw b) (λ b. rw b)))
     (λ en. by-test (eqb strong L) (λ b. rw (es, et, cs, en, b)) (λ b. rw (es, et, cs, en, b))))))
 
-pub picks-W7 : (strong t row place : ℕ) → row ≡ (if eqb strong L then 20 else 0) → place ≡ min t 19 → t < 256 → Picked t (getD keepsW7 (row + place) 0) (getD givesW7 (row + place) 0) (changeW7 strong (changeW6 t))
+pub picks-W7 : (table : List ℕ) → table ≡ late → (strong t row place : ℕ) → row ≡ (if eqb strong L then 20 else 0) → place ≡ min t 19 → t < 256 → Picked t (getD table (row + place) 0) (getD table (40 + (row + place)) 0) (changeW7 strong (changeW6 t))
 unfolding changedW7 newW7
-picks-W7 strong t row place is at h =
-    subst (Picked t (getD keepsW7 (row + place) 0) (getD givesW7 (row + place) 0)) (is-W7 strong t)
-    (pick-row newW7 keepsW7 givesW7 changedW7 refl refl refl refl only-W7 (eqb strong L) t t row place is at h (new-W7 t))
+picks-W7 table e strong t row place is at h =
+    rw (e, ← getD-drop 40 late (row + place) 0, ← is-W7 strong t)
+    (pick-row newW7 late (drop 40 late) changedW7 refl refl refl refl only-W7 (eqb strong L) t t row place is at h (new-W7 t))
 
 -- ---- the strong type that W7 carries
 only-side : OnlyClasses (λ t. eqb t R || eqb t L)
 only-side t h = rw (no-class t R h (omega arith), no-class t L h (omega arith))
 
-pub picks-side : (strong t place : ℕ) → place ≡ min t 19 → strong < 256 → t < 256 → Picked strong (getD keepsSide place 0) (getD givesSide place 0) (strongW7 strong t)
+pub picks-side : (table : List ℕ) → table ≡ late → (strong t place : ℕ) → place ≡ min t 19 → strong < 256 → t < 256 → Picked strong (getD table (80 + place) 0) (getD table (20 + (80 + place)) 0) (strongW7 strong t)
 unfolding strongW7
-picks-side strong t place at h n = pick (λ u. u) keepsSide givesSide (λ u. eqb u R || eqb u L) refl refl only-side strong t place at h n
+picks-side table e strong t place at h n =
+    let last : 20 + (80 + place) ≡ 100 + place = omega arith in
+    rw (e, last, ← getD-drop 80 late place 0, ← getD-drop 100 late place 0)
+    (pick (λ u. u) (drop 80 late) (drop 100 late) (λ u. eqb u R || eqb u L) refl refl only-side strong t place at h n)

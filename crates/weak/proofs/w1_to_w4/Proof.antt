@@ -8,10 +8,10 @@ use Rattle.weak.proofs.w1_to_w4.Statement.{statement}
 use Rattle.weak.proofs.w1_to_w4.Tie as tie
 
 abbrev Inv-loop : tie.InvT-loop
-Inv-loop types₀ sor eor own₀ here₀ strong₀ before₀ i₀ types own here strong before i = Early sor eor types₀ types own here strong before i
+Inv-loop table types₀ sor eor own₀ here₀ strong₀ before₀ i₀ types own here strong before i = Early sor eor types₀ types own here strong before i
 
 abbrev μ-loop : tie.MeasureT-loop
-μ-loop types₀ sor eor own₀ here₀ strong₀ before₀ i₀ types own here strong before i = length types₀ - i
+μ-loop table types₀ sor eor own₀ here₀ strong₀ before₀ i₀ types own here strong before i = length types₀ - i
 
 returns : tie.Need-returns Inv-loop μ-loop
 returns c = early-none _ _ _ (c .if1 .taken)

@@ -14,10 +14,10 @@ use Rattle.weak.proofs.w5_to_w7.Statement.{statement}
 use Rattle.weak.proofs.w5_to_w7.Tie as tie
 
 abbrev Inv-loop : tie.InvT-loop
-Inv-loop types₀ sor eor before₀ strong₀ i₀ types before strong i = Late sor eor types₀ types before strong i
+Inv-loop table types₀ sor eor before₀ strong₀ i₀ types before strong i = Late sor eor types₀ types before strong i
 
 abbrev μ-loop : tie.MeasureT-loop
-μ-loop types₀ sor eor before₀ strong₀ i₀ types before strong i = length types₀ - i
+μ-loop table types₀ sor eor before₀ strong₀ i₀ types before strong i = length types₀ - i
 
 -- the stretch found ends behind where it begins, and within the run
 found : (c : tie.After-terminators-end Inv-loop μ-loop) → (c .before .before .before .before .before .loop .i < c .terminators-end .result) × (c .terminators-end .result ≤ length (c .before .before .before .before .before .loop .types))
