@@ -3,6 +3,7 @@ pub mod ResetLaws
 pub mod TailLaws
 pub mod GatherLaws
 pub mod ScanLaws
+pub mod BlockLaws
 pub mod TurnLaws
 pub mod PassLaws
 pub mod ItemLaws

@@ -1,4 +1,4 @@
--- What is read off a list of levels from its front on: the highest and the lowest odd.
+-- What is read off a list of levels from its front on: the highest, the lowest and the lowest odd.
 -- Assumes nothing.
 use Prim.Native.Nat.{ℕ, _+_, _-_, _*_, _%_, _≤_, _<_, max, min}
 use native.Mathlib.Omega.{arith}
@@ -10,7 +10,7 @@ use borrow.Author.Tests.{eqb-true, eqb-false}
 use Rattle.rules.specs.Choice.{if_then_else_, isOdd}
 use Rattle.rules.specs.Line.{Item, highest, lowestOdd}
 use Rattle.rules.proofs.Lists.{drop-next}
-use Rattle.line.specs.Passes.{atLevels}
+use Rattle.line.specs.Passes.{atLevels, lowest}
 
 -- one more element is taken into a total, which stays what it is of the whole
 pub scan-next : (total : ℕ → List ℕ → ℕ) (whole acc acc′ : ℕ) (xs : List ℕ) (i : ℕ) → ((rest : List ℕ) → total acc′ rest ≡ total acc (getD xs i 0 ∷ rest)) → i < length xs → total acc (drop i xs) ≡ whole → total acc′ (drop (i + 1) xs) ≡ whole
@@ -33,6 +33,19 @@ topOf-next top l read top′ e r rest = omega arith
 pub topOf-none : (top : ℕ) → topOf top [] ≡ top
 unfolding highest
 topOf-none top = omega arith
+
+lowest-min : (a none : ℕ) (ls : List ℕ) → lowest (min none a) ls ≡ min a (lowest none ls)
+unfolding lowest
+lowest-min a none [] = omega arith
+lowest-min a none (l ∷ ls) = let rest : lowest (min none a) ls ≡ min a (lowest none ls) = lowest-min a none ls in omega arith
+
+pub lowest-next : (least l read least′ : ℕ) → least′ ≡ min least read → read ≡ l → (rest : List ℕ) → lowest least′ rest ≡ lowest least (l ∷ rest)
+unfolding lowest
+lowest-next least l read least′ e r rest = ap (λ (n : ℕ). lowest n rest) (e ∙ ap (min least) r) ∙ lowest-min l least rest
+
+pub lowest-none : (least : ℕ) → lowest least [] ≡ least
+unfolding lowest
+lowest-none least = refl
 
 abbrev pub lowOf : ℕ → List ℕ → ℕ
 lowOf low ls = lowestOdd low (atLevels ls)

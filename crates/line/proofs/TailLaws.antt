@@ -8,14 +8,14 @@ use mathlib.Core.Logic.{_⊎_, inl, inr}
 use mathlib.Core.Bool.{Bool, true, false, _&&_}
 use mathlib.Core.List.{List, [], _∷_, _++_}
 use lib.ListN.{length, getD, take, drop, set, length-append, length-drop, drop-of-length-le}
-use lib.Seq.{take-at, drop-at, take-all, drop-drop, getD-take, length-take-le}
+use lib.Seq.{take-at, drop-at, take-all, drop-drop, length-take-le}
 use Rattle.rules.specs.Choice.{if_then_else_}
 use Rattle.rules.specs.Classes.{isRemoved, isSeparator, isBlank}
 use Rattle.rules.specs.Jobs.{over}
 use Rattle.rules.specs.Line.{L1, blankAhead}
 use Rattle.rules.proofs.Any.{anyOf, none-first, neither}
 use Rattle.rules.proofs.Lists.{drop-next, le-or-lt}
-use Rattle.rules.proofs.Filling.{Filled, filled-begun, filled-next, filled-more, filled-all}
+use Rattle.rules.proofs.Filling.{Filled, filled-next, filled-more, filled-all}
 use Rattle.line.specs.Tails.{inTail, Tail, Rest, levelAt, tailLevels}
 use Rattle.line.proofs.ResetLaws.{length-L1}
 
@@ -102,28 +102,6 @@ L1-tail base (c ∷ cs) (l ∷ ls) zero h none t =
 L1-tail base (c ∷ cs) (l ∷ ls) (suc r) h none t =
     let first = none-first isSeparator c cs none in
     (λ j. kept-level base c l cs r (first .0) (first .1) t j ∷ L1-tail base cs ls r (omega arith) (first .1) (tail-rest c cs r t) j)
-
--- the levels before a position are copied one by one
-abbrev pub Copied : List ℕ → ℕ → List ℕ → List ℕ → ℕ → Type 0
-Copied ls end out₀ out i = (i ≤ end) × Filled (take end ls) out₀ out i (drop i (take end ls))
-
-pub copy-begun : (ls : List ℕ) (end : ℕ) (out : List ℕ) → Copied ls end out out 0
-copy-begun ls end out = (omega arith, filled-begun (take end ls) out)
-
-module _ (ls : List ℕ) (end : ℕ) (out₀ out : List ℕ) (i : ℕ) (reads : end ≤ length ls) (room : end ≤ length out₀) (now : Copied ls end out₀ out i) where
-  long : length (take end ls) ≡ end
-  long = length-take-le end ls reads
-
-  pub copy-next : (v : ℕ) (out′ : List ℕ) → i < end → v ≡ getD ls i 0 → out′ ≡ set out i v → Copied ls end out₀ out′ (i + 1)
-  copy-next v out′ h ev eo =
-      let rest : drop i (take end ls) ≡ v ∷ drop (i + 1) (take end ls) =
-      drop-next (take end ls) i (omega (arith, long)) ∙ ap (λ (n : ℕ). n ∷ drop (i + 1) (take end ls)) (getD-take end ls i 0 h ∙ sym ev) in
-      (omega arith, subst (λ (l : List ℕ). Filled (take end ls) out₀ l (i + 1) (drop (i + 1) (take end ls))) (sym eo) (filled-more rest (omega arith) (now .1)))
-
-  pub copy-ended : end ≤ i → out ≡ over (take end ls) out₀
-  copy-ended h =
-      let past : length (take end ls) ≤ i = omega (arith, long) in
-      filled-all (now .1) (drop-of-length-le (take end ls) past) (omega (arith, now .0))
 
 -- the tail is reset one by one, behind what stands before it
 pub record TailReset (base : ℕ) (cs ls : List ℕ) (from : ℕ) (out₀ out : List ℕ) (i : ℕ) : Type 0 where

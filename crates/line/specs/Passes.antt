@@ -1,20 +1,32 @@
 -- The passes of L2 as they are made: what stands in an order is moved, and the levels are read by place, as they were before any pass.
-use Prim.Native.Nat.{ℕ, zero, suc, _+_, _≤_, _<_}
+use Prim.Native.Nat.{ℕ, zero, suc, _+_, _≤_, _<_, min}
 use mathlib.Core.Path.{_≡_}
 use mathlib.Core.Bool.{Bool}
 use mathlib.Core.List.{List, [], _∷_, _++_, map}
 use lib.Dec.{leb, ltb}
-use lib.ListN.{length, getD}
+use lib.ListN.{length, getD, drop}
 use Rattle.rules.specs.Choice.{if_then_else_}
 use Rattle.rules.specs.Line.{Item}
+use Rattle.rules.proofs.Passes.{span}
 
 -- items at the given levels, whatever their positions
 abbrev pub atLevels : List ℕ → List Item
 atLevels ls = map (λ (l : ℕ). record { position = 0; level = l }) ls
 
+-- the lowest of a level and of all levels of a list
+unfoldable pub lowest : ℕ → List ℕ → ℕ
+lowest none [] = none
+lowest none (l ∷ ls) = min l (lowest none ls)
+
 -- what a pass at that level leaves where it is
 abbrev pub below : ℕ → ℕ → Bool
 below level l = ltb l level
+
+-- from one place to another nothing but what passes the test: what begins at either ends at the same place
+pub record Skipped (test : ℕ → Bool) (xs : List ℕ) (from to : ℕ) : Type 0 where
+  pub onward : from ≤ to
+  pub within : to ≤ length xs
+  pub same-end : to + span test (drop to xs) ≡ from + span test (drop from xs)
 
 -- one pass over the places with the given levels; all places past them stay. The stretch under way is held last first
 unfoldable pub passBy : ℕ → List ℕ → List ℕ → List ℕ → List ℕ

@@ -17,7 +17,7 @@ ghost use Rattle.rules.proofs.Passes.{span};
 ghost use Rattle.line.specs.Gathered.{Gathered, positions, levelsOf, upFrom, lineItems};
 ghost use Rattle.line.specs.Ordered.{Ordered};
 ghost use Rattle.line.specs.Tails.{inTail, Tail, Rest, tailLevels};
-ghost use Rattle.line.specs.Passes.{atLevels, below, passBy, passesBy, Turned};
+ghost use Rattle.line.specs.Passes.{atLevels, lowest, below, Skipped, passBy, passesBy, Turned};
 
 // A position of the classes and levels, in memory order.
 pub struct Position(pub usize);
@@ -133,19 +133,6 @@ fn blank_tail(classes: &[u8]) -> Position
     Position(i)
 }
 
-fn copy_levels(levels: &[u8], to: Position, out: &mut [u8])
-    requires { ⌜ to .0 ≤ length (now levels) ⌝ }
-    requires { ⌜ to .0 ≤ length (now out) ⌝ }
-    ensures { λ r. ⌜ now (out .exit) ≡ over (take (to .0) (now (levels .entry))) (now (out .entry)) ⌝ }
-{
-    let end = to.0;
-    let mut i = 0;
-    while i < end {
-        put_level(out, Position(i), level_at(levels, Position(i)));
-        i += 1;
-    }
-}
-
 // Nothing but blanks follows any of these positions.
 fn reset_tail(classes: &[u8], levels: &[u8], base: u8, from: Position, out: &mut [u8])
     requires { ⌜ length (now levels) ≡ length (now classes) ⌝ }
@@ -173,7 +160,8 @@ fn reset_rest(classes: &[u8], levels: &[u8], base: u8, out: &mut [u8])
         return;
     }
     let tail = blank_tail(classes);
-    copy_levels(levels, tail, out);
+    let kept = tail.0;
+    parts::copy(&levels[..kept], out);
     reset_tail(classes, levels, base, tail, out);
 }
 
@@ -296,7 +284,7 @@ fn lower(a: u8, b: u8) -> u8
     if a < b { a } else { b }
 }
 
-// Both loops over the levels look at every place and stay with bytes, so that many places are read at once.
+// The loops over the levels look at every place and stay with bytes, so that many places are read at once.
 fn highest_level(levels: &[u8]) -> u8
     ensures { λ r. ⌜ r ≡ highest (atLevels (now (levels .entry))) ⌝ }
 {
@@ -307,6 +295,19 @@ fn highest_level(levels: &[u8]) -> u8
         i += 1;
     }
     top
+}
+
+// The lowest level, or 255 where there is none.
+fn lowest_level(levels: &[u8]) -> u8
+    ensures { λ r. ⌜ r ≡ lowest 255 (now (levels .entry)) ⌝ }
+{
+    let mut least: u8 = 255;
+    let mut i = 0;
+    while i < levels.len() {
+        least = lower(least, level_of(levels, Place(i)));
+        i += 1;
+    }
+    least
 }
 
 // An odd level is itself and an even one counts as 255, by numbers alone: no branch.
@@ -363,12 +364,46 @@ fn reverse(order: &mut [u16], from: Place, to: Place)
     }
 }
 
-// The first place from `from` on that is at the level or above, or the end. What is below costs one look a place.
+// How many places are asked for at once where stretches are long.
+const BLOCK: usize = 16;
+
+// Passes over whole blocks from `from` on that are below the level.
+fn blocks_start(levels: &[u8], from: Place, level: u8) -> Place
+    requires { ⌜ from .0 ≤ length (now levels) ⌝ }
+    ensures { λ r. ⌜ Skipped (below level) (now (levels .entry)) (from .0) (r .0) ⌝ }
+{
+    let mut i = from.0;
+    while BLOCK <= levels.len() - i {
+        if level <= highest_level(&levels[i..i + BLOCK]) {
+            return Place(i);
+        }
+        i += BLOCK;
+    }
+    Place(i)
+}
+
+// Passes over whole blocks from `from` on that are at the level or above.
+fn blocks_end(levels: &[u8], from: Place, level: u8) -> Place
+    requires { ⌜ from .0 ≤ length (now levels) ⌝ }
+    ensures { λ r. ⌜ Skipped (leb level) (now (levels .entry)) (from .0) (r .0) ⌝ }
+{
+    let mut i = from.0;
+    while BLOCK <= levels.len() - i {
+        if lowest_level(&levels[i..i + BLOCK]) < level {
+            return Place(i);
+        }
+        i += BLOCK;
+    }
+    Place(i)
+}
+
+// The first place from `from` on that is at the level or above, or the end.
 fn stretch_start(levels: &[u8], from: Place, level: u8) -> Place
     requires { ⌜ from .0 ≤ length (now levels) ⌝ }
     ensures { λ r. ⌜ r .0 ≡ from .0 + span (below level) (drop (from .0) (now (levels .entry))) ⌝ }
 {
-    let mut i = from.0;
+    let near = blocks_start(levels, from, level);
+    let mut i = near.0;
     while i < levels.len() {
         if level <= level_of(levels, Place(i)) {
             return Place(i);
@@ -383,7 +418,8 @@ fn stretch_end(levels: &[u8], from: Place, level: u8) -> Place
     requires { ⌜ from .0 ≤ length (now levels) ⌝ }
     ensures { λ r. ⌜ r .0 ≡ from .0 + span (leb level) (drop (from .0) (now (levels .entry))) ⌝ }
 {
-    let mut i = from.0;
+    let near = blocks_end(levels, from, level);
+    let mut i = near.0;
     while i < levels.len() {
         if level_of(levels, Place(i)) < level {
             return Place(i);

@@ -1,5 +1,7 @@
 -- `line::reset_rest` meets its contract: without a separator the levels before the blank tail, then those of the tail.
 -- Assumes nothing.
+use mathlib.Core.Path.{sym}
+use lib.Seq.{length-take-le}
 use Rattle.rules.proofs.Tests.{known}
 use Rattle.line.proofs.TailLaws.{reset-joined}
 use borrow.Author.Needs.{needs}
@@ -21,14 +23,22 @@ returns c = search needs
 blank-tail-requires : tie.Need-blank-tail-requires
 blank-tail-requires c κs = search needs
 
-copy-levels-requires : tie.Need-copy-levels-requires
-copy-levels-requires c κs =
+slice-aggregate-copy : tie.Need-slice-aggregate-copy
+slice-aggregate-copy c =
     let w = c .before .blank-tail .ensures .within in
+    sym (length-take-le _ _ (search needs))
+
+copy-requires : tie.Need-copy-requires
+copy-requires c κs =
+    let tail = c .before .before in
+    let args = tail .before .before .before .before .before .before .args in
+    let w = tail .blank-tail .ensures .within in
+    let m = length-take-le (tail .blank-tail .result .0) (args .levels .now) (search needs) in
     search needs
 
 reset-tail-requires : tie.Need-reset-tail-requires
 reset-tail-requires c κs =
-    let w = c .before .before .before .before .before .blank-tail .ensures .within in
+    let w = c .before .before .before .before .before .before .blank-tail .ensures .within in
     search needs
 
 same-length-2 : tie.Need-same-length-2
@@ -38,11 +48,11 @@ returns-2 : tie.Need-returns-2
 returns-2 c =
     let tail = c .before .before in
     let copied = tail .before .before .before .before in
-    let tested = copied .before .before .before in
+    let tested = copied .before .before .before .before in
     let start = tested .before .before .before .before .before in
     let args = start .args in
     reset-joined (args .base) (args .classes .now) (args .levels .now) (args .out .now) _ _ _ (start .pre .0) (known (tested .before .any-separator .ensures) (tested .if1 .left))
-    (copied .before .before .blank-tail .ensures) (copied .copy-levels .ensures) (tail .reset-tail .ensures)
+    (copied .before .before .before .blank-tail .ensures) (copied .copy .ensures) (tail .reset-tail .ensures)
 
 pub reset-rest-spec : {M : Type 1} → statement M
 reset-rest-spec =
@@ -53,7 +63,8 @@ reset-rest-spec =
     same-length
     returns
     blank-tail-requires
-    copy-levels-requires
+    slice-aggregate-copy
+    copy-requires
     reset-tail-requires
     same-length-2
     returns-2)
