@@ -1,12 +1,12 @@
 -- Implicit levels stay within 62: at an odd level a type goes up by at most 1, at an even one by at most 2.
 -- Assumes nothing.
-use Prim.Native.Nat.{ℕ, _+_, _%_, _≤_}
+use Prim.Native.Nat.{ℕ, _+_, _*_, _%_, _≤_}
 use native.Mathlib.Omega.{arith}
 use mathlib.Core.Bool.{Bool, true, false, _||_}
 use mathlib.Core.Path.{_≡_, ap}
 use mathlib.Core.Logic.{⊎-elim}
 use mathlib.Core.List.{List, map}
-use borrow.Author.Tests.{eqb-false}
+use borrow.Author.Tests.{eqb-true, eqb-false}
 use lib.Dec.{eqb}
 use lib.ListN.{length, length-map}
 use Rattle.rules.specs.Choice.{if_then_else_, isOdd}
@@ -52,3 +52,24 @@ implicitLevel-within level t h =
 
 pub length-implicit : (level : ℕ) (ts : List ℕ) → length (map (implicitLevel level) ts) ≡ length ts
 length-implicit level ts = length-map ts (implicitLevel level)
+
+-- ---- the rise as a sum: no type is R and a number, nor L and a number
+I1-sum : (level t : ℕ) → level + (if eqb t R then 1 else 0) + 2 * (if eqb t EN || eqb t AN then 1 else 0) ≡ I1 level t
+unfolding I1
+I1-sum level t =
+    by-test (eqb t R)
+    (λ r. let e : t ≡ R = eqb-true t R r in rw e (omega arith))
+    (λ r. by-test (eqb t EN || eqb t AN) (λ n. rw (r, n) (omega arith)) (λ n. rw (r, n) (omega arith)))
+
+I2-sum : (level t : ℕ) → level + (if eqb t L then 1 else 0) + (if eqb t EN || eqb t AN then 1 else 0) ≡ I2 level t
+unfolding I2
+I2-sum level t =
+    by-test (eqb t L)
+    (λ l. let e : t ≡ L = eqb-true t L l in rw e (omega arith))
+    (λ l. by-test (eqb t EN) (λ n. rw (l, n) (omega arith)) (λ n. by-test (eqb t AN) (λ m. rw (l, n, m) (omega arith)) (λ m. rw (l, n, m) (omega arith))))
+
+pub rises-I1 : (level t a b : ℕ) (number : Bool) → a ≡ (if eqb t R then 1 else 0) → number ≡ (eqb t EN || eqb t AN) → b ≡ (if number then 1 else 0) → level + a + 2 * b ≡ I1 level t
+rises-I1 level t a b number e n f = rw (e, f, n) (I1-sum level t)
+
+pub rises-I2 : (level t a b : ℕ) (number : Bool) → a ≡ (if eqb t L then 1 else 0) → number ≡ (eqb t EN || eqb t AN) → b ≡ (if number then 1 else 0) → level + a + b ≡ I2 level t
+rises-I2 level t a b number e n f = rw (e, f, n) (I2-sum level t)

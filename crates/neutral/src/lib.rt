@@ -5,7 +5,7 @@ ghost use Prim.Native.Nat.{_+_, _≤_};
 ghost use mathlib.Core.Bool.{_||_};
 ghost use lib.Dec.{eqb};
 ghost use lib.ListN.{length, drop};
-ghost use Rattle.rules.specs.Choice.{isOdd};
+ghost use Rattle.rules.specs.Choice.{if_then_else_, isOdd};
 ghost use Rattle.rules.specs.Classes.{isNeutral, EN, AN, ON};
 ghost use Rattle.rules.specs.Neutral.{direction, levelDirection, changeN1, changeN2, N1, N2};
 ghost use Rattle.rules.specs.Implicit.{I1, I2, implicitLevel};
@@ -81,30 +81,29 @@ fn neutrals_end(types: &[u8], from: usize) -> usize
     i
 }
 
+// A number in place of a branch: which type comes next cannot be foreseen.
+fn one_if(test: bool) -> u8
+    ensures { λ r. ⌜ r ≡ (if test then 1 else 0) ⌝ }
+    ensures { λ r. ⌜ r ≤ 1 ⌝ }
+{
+    if test {
+        return 1;
+    }
+    0
+}
+
 fn i1(level: u8, t: u8) -> u8
     requires { ⌜ level ≤ 61 ⌝ }
     ensures { λ r. ⌜ r ≡ I1 level t ⌝ }
 {
-    if t == classes::R {
-        return level + 1;
-    }
-    if is_number(t) {
-        return level + 2;
-    }
-    level
+    level + one_if(t == classes::R) + 2 * one_if(is_number(t))
 }
 
 fn i2(level: u8, t: u8) -> u8
     requires { ⌜ level ≤ 61 ⌝ }
     ensures { λ r. ⌜ r ≡ I2 level t ⌝ }
 {
-    if t == classes::L {
-        return level + 1;
-    }
-    if is_number(t) {
-        return level + 1;
-    }
-    level
+    level + one_if(t == classes::L) + one_if(is_number(t))
 }
 
 // The one step from a run's level and a type to the level.

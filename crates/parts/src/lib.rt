@@ -17,11 +17,16 @@ pub fn element_or(types: &[u8], i: usize, end: u8) -> u8
     end
 }
 
-// Takes the part alone, so that it asks nothing of its caller.
+// Takes the part alone, so that it asks nothing of its caller. Most parts are one place long: the first is written by
+// itself, so that the loop, which becomes a call that fills memory, is spared.
 pub fn fill(part: &mut [u8], t: u8)
     ensures { λ _. ⌜ now (part .exit) ≡ replicate (length (now (part .entry))) t ⌝ }
 {
-    let mut i = 0;
+    if part.len() == 0 {
+        return;
+    }
+    part[0] = t;
+    let mut i = 1;
     while i < part.len() {
         part[i] = t;
         i += 1;

@@ -99,6 +99,16 @@ module _ {write : ℕ → ℕ → ℕ → ℕ} {carry : ℕ → ℕ → ℕ} {en
       sym (append-nil out)
       ∙ (rw (take-all i out full, drop-of-length-le xs past, sweep-nil write carry end s) at (now .joined))
 
+-- a list filled with one type: there is none, or the first place is written already
+pub none-to-fill : (t : ℕ) (xs : List ℕ) → length xs ≡ 0 → xs ≡ replicate (length xs) t
+none-to-fill t [] none = refl
+none-to-fill t (x ∷ xs) none = absurd (omega arith)
+
+pub first-filled : (t : ℕ) (xs : List ℕ) → (length xs ≡ 0 → ⊥) → Swept (λ s u n. t) (λ s u. s) 0 0 (set xs 0 t) (set xs 0 t) (set xs 0 t) 0 1
+unfolding sweep
+first-filled t [] some = absurd (some refl)
+first-filled t (x ∷ xs) some = record { within = omega arith; read = refl; written = refl; joined = refl }
+
 -- ---- Stretches: W5, N1 with N2
 
 -- how many types that pass a test come first

@@ -1,13 +1,16 @@
 -- A run with no type that a rule asks for stays as it is, whatever its start and end types.
 -- Assumes nothing.
 use Prim.Native.Nat.{ℕ}
-use mathlib.Core.Bool.{false, _||_}
+use native.Mathlib.Omega.{arith}
+use mathlib.Core.Bool.{true, false}
 use mathlib.Core.Path.{_≡_, refl, sym, ap}
 use mathlib.Core.List.{List, [], _∷_}
+use borrow.Author.Tests.{eqb-true}
 use lib.Dec.{eqb}
 use Rattle.rules.specs.Classes.{AL, EN, ES, ET, CS, NSM}
 use Rattle.rules.specs.Weak.{W1, W2, W3, W4, W5, W6, W7, changeW3, changeW4, changeW6, isTerminator, stretches, weak}
-use Rattle.rules.proofs.Any.{anyOf, neither, none-first}
+use Rattle.rules.proofs.Any.{anyOf, none-first}
+use Rattle.rules.proofs.Passes.{by-test}
 use Rattle.weak.specs.Steps.{strongW2, strongW7, isTouched}
 
 -- what a type is not that no rule asks for
@@ -19,15 +22,17 @@ record Untouched (t : ℕ) : Type 0 where
   no-cs : eqb t CS ≡ false
   no-nsm : eqb t NSM ≡ false
 
+-- a type that is not touched is none that is
+apart : (t k : ℕ) → isTouched t ≡ false → isTouched k ≡ true → eqb t k ≡ false
+apart t k e f =
+    by-test (eqb t k)
+    (λ same. let is : t ≡ k = eqb-true t k same in let z : true ≡ false = rw (is, f) at e in let n : _≡_ {A = ℕ} 0 1 = cc in absurd (omega arith))
+    (λ other. other)
+
 untouched : (t : ℕ) → isTouched t ≡ false → Untouched t
 unfolding isTouched
 untouched t e =
-    let p5 = neither (eqb t AL || eqb t EN || eqb t ES || eqb t ET || eqb t CS) (eqb t NSM) e in
-    let p4 = neither (eqb t AL || eqb t EN || eqb t ES || eqb t ET) (eqb t CS) (p5 .0) in
-    let p3 = neither (eqb t AL || eqb t EN || eqb t ES) (eqb t ET) (p4 .0) in
-    let p2 = neither (eqb t AL || eqb t EN) (eqb t ES) (p3 .0) in
-    let p1 = neither (eqb t AL) (eqb t EN) (p2 .0) in
-    record { no-al = p1 .0; no-en = p1 .1; no-es = p2 .1; no-et = p3 .1; no-cs = p4 .1; no-nsm = p5 .1 }
+    record { no-al = apart t AL e refl; no-en = apart t EN e refl; no-es = apart t ES e refl; no-et = apart t ET e refl; no-cs = apart t CS e refl; no-nsm = apart t NSM e refl }
 
 first : (t : ℕ) (ts : List ℕ) → anyOf isTouched (t ∷ ts) ≡ false → Untouched t
 first t ts none = untouched t (none-first isTouched t ts none .0)

@@ -2,9 +2,9 @@
 -- And which types any of the rules asks for.
 use Prim.Native.Nat.{ℕ}
 use mathlib.Core.Bool.{Bool, _||_, _&&_}
-use lib.Dec.{eqb}
+use lib.Dec.{eqb, leb}
 use Rattle.rules.specs.Choice.{if_then_else_}
-use Rattle.rules.specs.Classes.{L, R, AL, EN, ES, ET, AN, CS, NSM, isStrong}
+use Rattle.rules.specs.Classes.{L, R, AL, EN, AN, NSM, isStrong}
 
 unfoldable pub changeW1 : ℕ → ℕ → ℕ
 changeW1 before t = if eqb t NSM then before else t
@@ -21,6 +21,6 @@ changeW7 strong t = if eqb t EN && eqb strong L then L else t
 unfoldable pub strongW7 : ℕ → ℕ → ℕ
 strongW7 strong t = if eqb t R || eqb t L then t else strong
 
--- the types that a rule changes; AN is only looked at, and no other type is changed
+-- AL and the classes from EN to NSM: every type that a rule changes, and AN, which they look at
 unfoldable pub isTouched : ℕ → Bool
-isTouched t = eqb t AL || eqb t EN || eqb t ES || eqb t ET || eqb t CS || eqb t NSM
+isTouched t = eqb t AL || (leb EN t && leb t NSM)

@@ -144,19 +144,10 @@ fn is_touched(t: u8) -> bool
     if t == classes::AL {
         return true;
     }
-    if t == classes::EN {
-        return true;
+    if t < classes::EN {
+        return false;
     }
-    if t == classes::ES {
-        return true;
-    }
-    if t == classes::ET {
-        return true;
-    }
-    if t == classes::CS {
-        return true;
-    }
-    t == classes::NSM
+    t <= classes::NSM
 }
 
 // It looks at every type: a loop that could stop at the first would read them one by one.

@@ -17,17 +17,5 @@ returns-3 : tie.Need-returns-3
 unfolding isTouched
 returns-3 c = search (needs, tests)
 
-returns-4 : tie.Need-returns-4
-unfolding isTouched
-returns-4 c = search (needs, tests)
-
-returns-5 : tie.Need-returns-5
-unfolding isTouched
-returns-5 c = search (needs, tests)
-
-returns-6 : tie.Need-returns-6
-unfolding isTouched
-returns-6 c = search (needs, tests)
-
 pub is-touched-spec : {M : Type 1} → statement M
-is-touched-spec = tie.close (tie.spec returns returns-2 returns-3 returns-4 returns-5 returns-6)
+is-touched-spec = tie.close (tie.spec returns returns-2 returns-3)
