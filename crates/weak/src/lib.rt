@@ -1,8 +1,9 @@
 // Weak types: rules W1 to W7 on the types of one run, in place, in two passes: W1 to W4, then W5 to W7. A run has a
 // start type `sor` and an end type `eor`.
 ghost use mathlib.Core.Path.{_≡_};
-ghost use Prim.Native.Nat.{_+_};
-ghost use lib.ListN.{drop};
+ghost use mathlib.Core.Bool.{false};
+ghost use Prim.Native.Nat.{_+_, _≤_};
+ghost use lib.ListN.{length, drop};
 ghost use Rattle.rules.specs.Weak.{W1, W2, W3, W4, W5, W6, W7, changeW3, changeW4, changeW5, changeW6, isTerminator, weak};
 ghost use Rattle.rules.specs.Classes.{ET};
 ghost use Rattle.rules.proofs.Any.{anyOf};
@@ -150,27 +151,39 @@ fn is_touched(t: u8) -> bool
     t <= classes::NSM
 }
 
-// It looks at every type: a loop that could stop at the first would read them one by one.
-fn any_touched(types: &[u8]) -> bool
-    ensures { λ r. ⌜ r ≡ anyOf isTouched (now (types .entry)) ⌝ }
+// Where the last type that a rule asks for ends: behind it the run stays as it is.
+fn touched_end(types: &[u8]) -> usize
+    ensures { λ r. ⌜ r ≤ length (now (types .entry)) ⌝ }
+    ensures { λ r. ⌜ anyOf isTouched (drop r (now (types .entry))) ≡ false ⌝ }
 {
-    let mut found = false;
-    let mut i: usize = 0;
-    while i < types.len() {
-        found = parts::either(found, is_touched(types[i]));
-        i += 1;
+    let mut end = types.len();
+    while 0 < end {
+        if is_touched(types[end - 1]) {
+            return end;
+        }
+        end -= 1;
     }
-    found
+    end
 }
 
-// A run with no type that a rule asks for stays as it is.
+// The two passes, each lent its table.
+fn both_passes(types: &mut [u8], sor: u8, eor: u8)
+    ensures { λ _. ⌜ now (types .exit) ≡ weak sor eor (now (types .entry)) ⌝ }
+{
+    let early = EARLY;
+    let late = LATE;
+    w1_to_w4(&early, types, sor, eor);
+    w5_to_w7(&late, types, sor, eor);
+}
+
+// The rules see of what is behind the last touched type only the first type: to them it is the end type.
 pub fn weak(types: &mut [u8], sor: u8, eor: u8)
     ensures { λ _. ⌜ now (types .exit) ≡ weak sor eor (now (types .entry)) ⌝ }
 {
-    if any_touched(types) {
-        let early = EARLY;
-        let late = LATE;
-        w1_to_w4(&early, types, sor, eor);
-        w5_to_w7(&late, types, sor, eor);
+    let end = touched_end(types);
+    if end == 0 {
+        return;
     }
+    let behind = parts::element_or(types, end, eor);
+    both_passes(&mut types[..end], sor, behind);
 }
