@@ -1,7 +1,6 @@
 // The ten refusals, and the checks that the jobs make before they write anything. Each check answers
 // what the definition of that check says, in the page's numbers and places.
 ghost use mathlib.Core.Path.{_≡_};
-ghost use mathlib.Core.Bool.{Bool};
 ghost use Prim.Native.Nat.{_+_, _≤_, _<_};
 ghost use lib.ListN.{length, getD, drop};
 ghost use Rattle.rules.specs.Refusals.{faultAt, firstFault, checkClasses, isBadLevel, firstBadLevel, endsRiseTo, checksOfLevels, checksOfOrder, checksOfLine, checksOfLines};

@@ -3,15 +3,13 @@
 use Prim.Native.Nat.{ℕ, zero, suc, _≤_}
 use native.Mathlib.Omega.{arith}
 use mathlib.Core.Path.{_≡_, refl, sym, ap, ap₂, _∙_}
-use mathlib.Core.Bool.{Bool, true, false}
+use mathlib.Core.Bool.{false}
 use mathlib.Core.List.{List, [], _∷_, _++_, append-nil}
 use borrow.Author.Tests.{eq-eqb}
-use lib.Dec.{eqb}
 use lib.ListN.{length, take, drop, replicate, length-replicate, drop-of-length-le}
 use lib.Seq.{take-all, take-at, length-take-le}
-use Rattle.rules.specs.Choice.{if_then_else_, headOr}
-use Rattle.rules.specs.Classes.{ON, isRemoved, isParagraphEnd}
-use Rattle.rules.specs.Explicit.{X1, X6level, X6type, neutral, levelHere, typeHere, step, explicitLevels, explicitTypes, kept, putBack}
+use Rattle.rules.specs.Classes.{isRemoved, isParagraphEnd}
+use Rattle.rules.specs.Explicit.{X1, X6level, X6type, levelHere, typeHere, explicitLevels, explicitTypes, kept, putBack}
 use Rattle.rules.specs.Runs.{oneLonger, runLengths, boundaryType}
 use Rattle.rules.specs.Resolve.{resolveRun, resolveRuns, resolveKept, resolvedLevels}
 use Rattle.rules.specs.Jobs.{over}

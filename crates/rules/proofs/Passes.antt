@@ -10,10 +10,10 @@ use mathlib.Core.Path.{_≡_, refl, sym, ap, _∙_}
 use mathlib.Core.List.{List, [], _∷_, _++_, map, append-nil, append-assoc}
 use lib.ListN.{length, getD, take, drop, set, replicate, length-set, length-drop, length-replicate, drop-of-length-le}
 use lib.Seq.{take-all, drop-nil, getD-drop, drop-drop}
-use borrow.Rule.Slice.PartMut.{midOf, putMid, same-len-mid, mid-len, drop-put}
+use borrow.Rule.Slice.PartMut.{midOf, putMid, same-len-mid, mid-len}
 use Rattle.rules.specs.Choice.{if_then_else_, headOr}
 use Rattle.rules.specs.Weak.{afterStretch, stretches}
-use Rattle.rules.proofs.Lists.{take-set-next, drop-next, drop-set-next, take-next, take-put-end}
+use Rattle.rules.proofs.Lists.{take-set-next, drop-next, drop-set-next, take-put-end}
 
 -- what comes first of what is left is what stands at that place
 pub head-drop : (end : ℕ) (xs : List ℕ) (i : ℕ) → headOr end (drop i xs) ≡ getD xs i end
@@ -242,66 +242,6 @@ map-stretches f test change end keeps before (t ∷ ts) =
     ∙ ap (λ (x : ℕ). x ∷ map f (stretches test change t end ts)) (keeps t fails)
     ∙ ap (λ (r : List ℕ). t ∷ r) (map-stretches f test change end keeps t ts)
     ∙ sym (stretches-over test (λ b n u. f (change b n u)) end before t ts fails))
-
--- what holds at the head of a loop that goes from stretch to stretch in place
-pub record Stretched (test : ℕ → Bool) (change : ℕ → ℕ → ℕ → ℕ) (end start : ℕ) (xs₀ xs : List ℕ) (before i : ℕ) : Type 0 where
-  pub within : i ≤ length xs₀
-  pub long : length xs ≡ length xs₀
-  pub joined : take i xs ++ stretches test change before end (drop i xs) ≡ stretches test change start end xs₀
-
-module _ {test : ℕ → Bool} {change : ℕ → ℕ → ℕ → ℕ} {end : ℕ} where
-  pub stretch-begun : (start : ℕ) (xs : List ℕ) → Stretched test change end start xs xs start 0
-  stretch-begun start xs = record { within = omega arith; long = refl; joined = refl }
-
-  -- a type that fails the test stays, and is the one before what follows
-  pub stretch-over : {start : ℕ} {xs₀ xs : List ℕ} {before i : ℕ} → Stretched test change end start xs₀ xs before i → i < length xs → test (getD xs i 0) ≡ false → Stretched test change end start xs₀ xs (getD xs i 0) (i + 1)
-  stretch-over {start} {xs₀} {xs} {before} {i} now below fails =
-      record {
-        within = omega (arith, now .long);
-        long = now .long;
-        joined =
-            ap (λ (r : List ℕ). r ++ stretches test change (getD xs i 0) end (drop (i + 1) xs)) (take-next xs i below)
-            ∙ append-assoc (take i xs) (getD xs i 0 ∷ []) (stretches test change (getD xs i 0) end (drop (i + 1) xs))
-            ∙ ap (λ (r : List ℕ). take i xs ++ r) (sym (stretches-over test change end before (getD xs i 0) (drop (i + 1) xs) fails) ∙ ap (stretches test change before end) (sym (drop-next xs i below)))
-            ∙ now .joined;
-      }
-
-  -- a stretch that begins at i and ends at e is filled by what its change gives every type of it
-  module _ {start : ℕ} {xs₀ xs ys : List ℕ} {before i e v : ℕ} (now : Stretched test change end start xs₀ xs before i) (ends : e ≡ i + span test (drop i xs)) (same : (t : ℕ) → test t ≡ true → change before (getD xs e end) t ≡ v) (fill : ys ≡ replicate (length (midOf i (e - i) xs)) v) where
-    bounds : (i ≤ e) × (e ≤ length xs)
-    bounds = span-end test xs i e (omega (arith, now .within, now .long)) ends
-
-    the-fill : ys ≡ replicate (e - i) v
-    the-fill = fill ∙ ap (λ (n : ℕ). replicate n v) (mid-len i e xs (bounds .1))
-
-    length-fill : length ys ≡ e - i
-    length-fill = ap length the-fill ∙ length-replicate (e - i) v
-
-    take-fill : take e (putMid i (e - i) xs ys) ≡ take i xs ++ ys
-    take-fill = take-put-end xs ys i e (bounds .0) (bounds .1) length-fill
-
-    the-stretch : stretches test change before end (drop i xs) ≡ ys ++ stretches test change before end (drop e xs)
-    the-stretch =
-        stretch-parted test change end xs before i e v (bounds .0) ends same
-        ∙ ap (λ (r : List ℕ). r ++ stretches test change before end (drop e xs)) (sym the-fill)
-
-    pub stretch-filled : Stretched test change end start xs₀ (putMid i (e - i) xs ys) before e
-    stretch-filled =
-        record {
-          within = omega (arith, bounds, now .long);
-          long = same-len-mid i (e - i) xs ys (length-fill ∙ sym (mid-len i e xs (bounds .1))) ∙ now .long;
-          joined =
-              ap (λ (r : List ℕ). r ++ stretches test change before end (drop e (putMid i (e - i) xs ys))) take-fill
-              ∙ ap (λ (r : List ℕ). (take i xs ++ ys) ++ stretches test change before end r) (drop-put i e xs ys (bounds .0) (bounds .1) length-fill)
-              ∙ append-assoc (take i xs) ys (stretches test change before end (drop e xs))
-              ∙ ap (λ (r : List ℕ). take i xs ++ r) (sym the-stretch)
-              ∙ now .joined;
-        }
-
-  pub stretch-done : {start : ℕ} {xs₀ xs : List ℕ} {before i : ℕ} → Stretched test change end start xs₀ xs before i → length xs ≤ i → xs ≡ stretches test change start end xs₀
-  stretch-done {start} {xs₀} {xs} {before} {i} now past =
-      sym (append-nil xs)
-      ∙ (rw (take-all i xs past, drop-of-length-le xs past, stretches-nil test change end before) at (now .joined))
 
 -- ---- Stretches that are read from one list and written, changed once more, into another: N1 with N2, and the levels
 

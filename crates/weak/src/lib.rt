@@ -4,12 +4,12 @@ ghost use mathlib.Core.Path.{_≡_};
 ghost use mathlib.Core.Bool.{false};
 ghost use Prim.Native.Nat.{_+_, _≤_};
 ghost use lib.ListN.{length, drop};
-ghost use Rattle.rules.specs.Weak.{W1, W2, W3, W4, W5, W6, W7, changeW3, changeW4, changeW5, changeW6, isTerminator, weak};
+ghost use Rattle.rules.specs.Weak.{W1, W2, W3, W4, W5, W6, W7, changeW4, changeW5, isTerminator, weak};
 ghost use Rattle.rules.specs.Classes.{ET};
 ghost use Rattle.rules.proofs.Any.{anyOf};
 ghost use Rattle.rules.proofs.Passes.{span};
 ghost use Rattle.weak.specs.Tables.{early, late};
-ghost use Rattle.weak.specs.Steps.{changeW1, changeW2, strongW2, changeW7, strongW7, isTouched};
+ghost use Rattle.weak.specs.Steps.{changeW1, isTouched};
 
 mod steps;
 
