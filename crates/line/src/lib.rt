@@ -367,13 +367,16 @@ fn reverse(order: &mut [u16], from: Place, to: Place)
 // How many places are asked for at once where stretches are long.
 const BLOCK: usize = 16;
 
+// With fewer places left they are looked at one by one: on a short line a block gains nothing.
+const FAR: usize = 64;
+
 // Passes over whole blocks from `from` on that are below the level.
 fn blocks_start(levels: &[u8], from: Place, level: u8) -> Place
     requires { ⌜ from .0 ≤ length (now levels) ⌝ }
     ensures { λ r. ⌜ Skipped (below level) (now (levels .entry)) (from .0) (r .0) ⌝ }
 {
     let mut i = from.0;
-    while BLOCK <= levels.len() - i {
+    while FAR <= levels.len() - i {
         if level <= highest_level(&levels[i..i + BLOCK]) {
             return Place(i);
         }
@@ -388,7 +391,7 @@ fn blocks_end(levels: &[u8], from: Place, level: u8) -> Place
     ensures { λ r. ⌜ Skipped (leb level) (now (levels .entry)) (from .0) (r .0) ⌝ }
 {
     let mut i = from.0;
-    while BLOCK <= levels.len() - i {
+    while FAR <= levels.len() - i {
         if lowest_level(&levels[i..i + BLOCK]) < level {
             return Place(i);
         }
