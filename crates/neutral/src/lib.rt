@@ -129,7 +129,7 @@ pub fn neutral_levels(types: &[u8], level: u8, sor: u8, eor: u8, levels: &mut [u
     while i < types.len() {
         let t = types[i];
         if classes::is_neutral(t) {
-            let end = neutrals_end(types, i);
+            let end = neutrals_end(types, i + 1);
             let next = parts::element_or(types, end, eor);
             parts::fill(
                 &mut levels[i..end],

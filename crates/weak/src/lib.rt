@@ -123,7 +123,7 @@ fn w5_to_w7(table: &[u8], types: &mut [u8], sor: u8, eor: u8)
     while i < types.len() {
         let t = types[i];
         if t == classes::ET {
-            let end = terminators_end(types, i);
+            let end = terminators_end(types, i + 1);
             let next = parts::element_or(types, end, eor);
             parts::fill(
                 &mut types[i..end],

@@ -1,15 +1,15 @@
 -- `neutral::neutral_levels` meets its contract: it goes from stretch to stretch of neutrals, with both rules' change, and
 -- writes the level of each type. The measure is what is left of the length. Assumes nothing.
-use Prim.Native.Nat.{_-_, _≤_, _<_}
+use Prim.Native.Nat.{_+_, _-_, _≤_, _<_}
 use native.Mathlib.Omega.{arith}
-use mathlib.Core.Path.{sym, ap, _∙_}
+use mathlib.Core.Path.{_≡_, sym, ap, _∙_}
 use mathlib.Core.List.{map}
-use lib.ListN.{length}
+use lib.ListN.{length, drop}
 use Rattle.rules.specs.Classes.{ON, isNeutral}
 use Rattle.rules.specs.Neutral.{changeN1, changeN2}
 use Rattle.rules.specs.Implicit.{implicitLevel}
 use Rattle.rules.proofs.Tests.{known}
-use Rattle.rules.proofs.Passes.{Spread, spread-begun, spread-over, spread-filled, spread-done, span-found}
+use Rattle.rules.proofs.Passes.{Spread, spread-begun, spread-over, spread-filled, spread-done, span, span-further, span-found}
 use Rattle.neutral.proofs.NeutralLaws.{N-same, N1-N2}
 use borrow.Author.Needs.{needs}
 use Rattle.neutral.proofs.neutral_levels.Statement.{statement}
@@ -21,11 +21,17 @@ Inv-loop types level sor eor levels₀ before₀ i₀ levels before i = Spread (
 abbrev μ-loop : tie.MeasureT-loop
 μ-loop types level sor eor levels₀ before₀ i₀ levels before i = length types - i
 
--- the stretch found ends behind where it begins, and within the run
+-- the first of the stretch is known: its end is sought behind it
+ends : (c : tie.After-neutrals-end Inv-loop μ-loop) → c .neutrals-end .result ≡ c .before .before .before .before .before .loop .i + span isNeutral (drop (c .before .before .before .before .before .loop .i) (c .before .before .before .before .before .before .before .before .args .types .now))
+ends c =
+    let at = c .before .before in
+    c .neutrals-end .ensures ∙ sym (span-further isNeutral _ _ (at .before .before .loop-test .taken) (known (at .is-neutral .ensures) (c .before .if1 .taken)))
+
+-- it ends behind where it begins, and within the run
 found : (c : tie.After-neutrals-end Inv-loop μ-loop) → (c .before .before .before .before .before .loop .i < c .neutrals-end .result) × (c .neutrals-end .result ≤ length (c .before .before .before .before .before .before .before .before .args .types .now))
 found c =
     let at = c .before .before in
-    span-found isNeutral _ _ _ (at .before .before .loop-test .taken) (known (at .is-neutral .ensures) (c .before .if1 .taken)) (c .neutrals-end .ensures)
+    span-found isNeutral _ _ _ (at .before .before .loop-test .taken) (known (at .is-neutral .ensures) (c .before .if1 .taken)) (ends c)
 
 loop-holds : tie.Need-loop-holds Inv-loop μ-loop
 loop-holds c = spread-begun _ _ _ (sym (c .before .before .pre .0))
@@ -35,6 +41,9 @@ shared-slice-read-t c = search needs
 
 is-neutral-requires : tie.Need-is-neutral-requires Inv-loop μ-loop
 is-neutral-requires c κs = search needs
+
+add-neutrals-end : tie.Need-add-neutrals-end Inv-loop μ-loop
+add-neutrals-end c = search needs
 
 neutrals-end-requires : tie.Need-neutrals-end-requires Inv-loop μ-loop
 neutrals-end-requires c κs = search needs
@@ -70,7 +79,7 @@ loop-again c =
     let e = c .before .before .before .before .before .before .before in
     let at = e .before .before .before .before .before in
     let level = at .before .before .before .args .level in
-    spread-filled (at .loop .inv) (e .neutrals-end .ensures)
+    spread-filled (at .loop .inv) (ends e)
     (λ t is. N-same level _ _ t is ∙ ap (λ n. changeN2 level (changeN1 (at .loop .before) n ON)) (sym (c .before .before .before .before .before .before .element-or .ensures)) ∙ sym (c .before .before .before .before .change-neutral .ensures))
     (c .before .before .before .implicit-level .ensures)
     (c .before .before .fill .ensures)
@@ -107,6 +116,7 @@ neutral-levels-spec =
     loop-holds
     shared-slice-read-t
     is-neutral-requires
+    add-neutrals-end
     neutrals-end-requires
     element-or-requires
     sub-fill

@@ -1,12 +1,12 @@
 -- `weak::w5_to_w7` meets its contract: it goes from stretch to stretch of ET. The measure is what is left of the length.
 -- Assumes nothing.
-use Prim.Native.Nat.{_-_, _≤_, _<_}
+use Prim.Native.Nat.{_+_, _-_, _≤_, _<_}
 use native.Mathlib.Omega.{arith}
-use mathlib.Core.Path.{ap, _∙_}
-use lib.ListN.{length}
+use mathlib.Core.Path.{_≡_, sym, ap, _∙_}
+use lib.ListN.{length, drop}
 use borrow.Author.Tests.{eq-eqb, ne-eqb}
 use Rattle.rules.specs.Weak.{isTerminator, changeW6}
-use Rattle.rules.proofs.Passes.{span-found}
+use Rattle.rules.proofs.Passes.{span, span-further, span-found}
 use Rattle.weak.specs.Steps.{changeW7}
 use Rattle.weak.proofs.LateLaws.{Late, late-begun, late-next, late-filled, late-done}
 use borrow.Author.Needs.{needs}
@@ -19,17 +19,26 @@ Inv-loop table types₀ sor eor before₀ strong₀ i₀ types before strong i =
 abbrev μ-loop : tie.MeasureT-loop
 μ-loop table types₀ sor eor before₀ strong₀ i₀ types before strong i = length types₀ - i
 
--- the stretch found ends behind where it begins, and within the run
+-- the first of the stretch is known: its end is sought behind it
+ends : (c : tie.After-terminators-end Inv-loop μ-loop) → c .terminators-end .result ≡ c .before .before .before .before .before .loop .i + span isTerminator (drop (c .before .before .before .before .before .loop .i) (c .before .before .before .before .before .loop .types))
+unfolding isTerminator
+ends c =
+    c .terminators-end .ensures ∙ sym (span-further isTerminator _ _ (c .before .before .before .before .loop-test .taken) (eq-eqb _ _ (c .before .before .if1 .taken)))
+
+-- it ends behind where it begins, and within the run
 found : (c : tie.After-terminators-end Inv-loop μ-loop) → (c .before .before .before .before .before .loop .i < c .terminators-end .result) × (c .terminators-end .result ≤ length (c .before .before .before .before .before .loop .types))
 unfolding isTerminator
 found c =
-    span-found isTerminator _ _ _ (c .before .before .before .before .loop-test .taken) (eq-eqb _ _ (c .before .before .if1 .taken)) (c .terminators-end .ensures)
+    span-found isTerminator _ _ _ (c .before .before .before .before .loop-test .taken) (eq-eqb _ _ (c .before .before .if1 .taken)) (ends c)
 
 loop-holds : tie.Need-loop-holds Inv-loop μ-loop
 loop-holds c = late-begun _
 
 slice-read-t : tie.Need-slice-read-t Inv-loop μ-loop
 slice-read-t c = search needs
+
+add-terminators-end : tie.Need-add-terminators-end Inv-loop μ-loop
+add-terminators-end c = search needs
 
 terminators-end-requires : tie.Need-terminators-end-requires Inv-loop μ-loop
 terminators-end-requires c κs = search needs
@@ -64,7 +73,7 @@ loop-again : tie.Need-loop-again Inv-loop μ-loop
 loop-again c =
     let e = c .before .before .before .before .before .before .before .before in
     let at = e .before .before .before .before .before in
-    late-filled (at .loop .inv) (e .terminators-end .ensures) (c .before .before .before .before .before .before .element-or .ensures)
+    late-filled (at .loop .inv) (ends e) (c .before .before .before .before .before .before .element-or .ensures)
     (c .before .before .before .change-w6-w7 .ensures ∙ ap (λ t. changeW7 (at .loop .strong) (changeW6 t)) (c .before .before .before .before .change-w5 .ensures))
     (c .before .before .fill .ensures)
 
@@ -104,6 +113,7 @@ w5-to-w7-spec =
     μ-loop
     loop-holds
     slice-read-t
+    add-terminators-end
     terminators-end-requires
     element-or-requires
     sub-fill
