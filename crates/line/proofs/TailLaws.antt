@@ -1,13 +1,13 @@
 -- L1 on a line without a separator: what comes before the blanks at its end is as it was. And on a line that ends in one:
 -- the rest is reset as a line of its own.
 -- Assumes nothing.
-use Prim.Native.Nat.{ℕ, zero, suc, _+_, _-_, _≤_, _<_}
+use Prim.Native.Nat.{ℕ, zero, suc, _+_, _-_, _≤_, _<_, min}
 use native.Mathlib.Omega.{arith}
 use mathlib.Core.Path.{_≡_, refl, sym, ap, subst, _∙_}
 use mathlib.Core.Logic.{_⊎_, inl, inr}
 use mathlib.Core.Bool.{Bool, true, false, _&&_}
 use mathlib.Core.List.{List, [], _∷_, _++_}
-use lib.ListN.{length, getD, take, drop, set, length-append, length-drop, drop-of-length-le}
+use lib.ListN.{length, getD, take, drop, set, length-append, length-take, length-drop, drop-of-length-le}
 use lib.Seq.{take-at, drop-at, take-all, drop-drop, length-take-le}
 use Rattle.rules.specs.Choice.{if_then_else_}
 use Rattle.rules.specs.Classes.{isRemoved, isSeparator, isBlank}
@@ -131,6 +131,10 @@ module _ (base : ℕ) (cs ls : List ℕ) (from : ℕ) (out₀ out : List ℕ) (i
 
   pub tail-ended : length cs ≤ i → out ≡ over (take from out₀ ++ tailLevels base (drop from cs) (drop from ls)) out₀
   tail-ended h = filled-all (now .filled) (tail-none h) (omega (arith, now .within))
+
+-- there is room for the levels before the tail
+pub part-fits : (r room : ℕ) (xs : List ℕ) → r ≤ room → length (take r xs) ≤ room
+part-fits r room xs h = let long : length (take r xs) ≡ min r (length xs) = length-take r xs in omega arith
 
 -- both together are the reset of a line without a separator
 pub reset-joined : (base : ℕ) (cs ls out₀ out₁ out₂ : List ℕ) (r : ℕ) → length ls ≡ length cs → anyOf isSeparator cs ≡ false → Tail cs r → out₁ ≡ over (take r ls) out₀ → out₂ ≡ over (take r out₁ ++ tailLevels base (drop r cs) (drop r ls)) out₁ → out₂ ≡ over (L1 base cs ls) out₀

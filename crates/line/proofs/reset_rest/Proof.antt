@@ -3,7 +3,7 @@
 use mathlib.Core.Path.{sym}
 use lib.Seq.{length-take-le}
 use Rattle.rules.proofs.Tests.{known}
-use Rattle.line.proofs.TailLaws.{reset-joined}
+use Rattle.line.proofs.TailLaws.{part-fits, reset-joined}
 use borrow.Author.Needs.{needs}
 use Rattle.line.proofs.reset_rest.Statement.{statement}
 use Rattle.line.proofs.reset_rest.Tie as tie
@@ -30,11 +30,9 @@ slice-aggregate-copy c =
 
 copy-requires : tie.Need-copy-requires
 copy-requires c κs =
-    let tail = c .before .before in
-    let args = tail .before .before .before .before .before .before .args in
-    let w = tail .blank-tail .ensures .within in
-    let m = length-take-le (tail .blank-tail .result .0) (args .levels .now) (search needs) in
-    search needs
+    let tail = c .before .before .blank-tail in
+    let w = tail .ensures .within in
+    part-fits (tail .result .0) _ _ (search needs)
 
 reset-tail-requires : tie.Need-reset-tail-requires
 reset-tail-requires c κs =
