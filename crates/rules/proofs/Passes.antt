@@ -73,9 +73,6 @@ pub record Swept (write : ℕ → ℕ → ℕ → ℕ) (carry : ℕ → ℕ → 
   pub joined : take i out ++ sweep write carry end s (drop i xs) ≡ sweep write carry end start xs₀
 
 module _ {write : ℕ → ℕ → ℕ → ℕ} {carry : ℕ → ℕ → ℕ} {end : ℕ} where
-  pub sweep-begun : (start : ℕ) (xs out : List ℕ) → length out ≡ length xs → Swept write carry end start xs xs out start 0
-  sweep-begun start xs out long = record { within = omega arith; read = refl; written = long; joined = refl }
-
   module _ {start : ℕ} {xs₀ xs out : List ℕ} {s i v s′ : ℕ} (now : Swept write carry end start xs₀ xs out s i) (below : i < length xs) (wrote : v ≡ write s (getD xs i 0) (getD xs (i + 1) end)) (carried : s′ ≡ carry s (getD xs i 0)) where
     joined-next : take (i + 1) (set out i v) ++ sweep write carry end s′ (drop (i + 1) xs) ≡ sweep write carry end start xs₀
     joined-next =
