@@ -1,5 +1,5 @@
 // The classes by name, and each question that the rules ask of a class: one function for each test
-// of the definitions, so that no other code looks at a class number.
+// of the definitions. Other code compares names; where it goes by their numbers, in a table or a range, a law says why.
 ghost use mathlib.Core.Path.{_≡_};
 ghost use Prim.Native.Nat.{_<_, min};
 ghost use Rattle.rules.specs.Classes.{isUnknown, isParagraphEnd, isOpening, isRemoved, isStrong, isNeutral, isSeparator, isBlank};

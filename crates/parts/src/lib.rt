@@ -1,4 +1,4 @@
-// What the rules on stretches and runs share, over plain slices.
+// What the passes of several crates share, over plain slices.
 ghost use mathlib.Core.Path.{_≡_};
 ghost use mathlib.Core.Bool.{_||_};
 ghost use Prim.Native.Nat.{_≤_};

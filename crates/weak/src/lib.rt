@@ -139,6 +139,7 @@ fn w5_to_w7(table: &[u8], types: &mut [u8], sor: u8, eor: u8)
     }
 }
 
+// AL, and the range from EN to NSM: AN in it is only looked at, but one range is asked sooner than five names.
 fn is_touched(t: u8) -> bool
     ensures { λ r. ⌜ r ≡ isTouched t ⌝ }
 {
