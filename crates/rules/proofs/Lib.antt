@@ -6,3 +6,5 @@ pub mod Any
 pub mod Table
 pub mod Passes
 pub mod Filling
+pub mod Settling
+pub mod CanonicalLaws

@@ -1,4 +1,4 @@
--- The five jobs: what each answers, and what it leaves in the buffer that it is lent.
+-- The jobs: what each answers, and what it leaves in the buffer that it is lent.
 use Prim.Native.Nat.{ℕ}
 use mathlib.Core.List.{List, [], _++_}
 use lib.ListN.{length, drop}
@@ -6,7 +6,7 @@ use Rattle.rules.specs.Paragraph.{P1, baseByText, baseOf}
 use Rattle.rules.specs.Explicit.{X1, explicitLevels}
 use Rattle.rules.specs.Resolve.{resolvedLevels}
 use Rattle.rules.specs.Line.{lineOrder, allOrders}
-use Rattle.rules.specs.Refusals.{Check, sound, refuse, checksOfCut, checksOfBase, checksOfLevels, checksOfLine, checksOfLines}
+use Rattle.rules.specs.Refusals.{Check, sound, refuse, checksOfCut, checksOfBase, checksOfLevels, checksOfLine, checksOfLines, checksOfMarks}
 
 -- a job accepts and answers a value, or refuses with a number and a place
 pub data Answer : Type 0 where
@@ -67,3 +67,8 @@ linesAnswer cs levels base ends order =
 unfoldable pub linesBuffer : List ℕ → List ℕ → ℕ → List ℕ → List ℕ → List ℕ
 linesBuffer cs levels base ends order =
     whereSound (checksOfLines cs levels base ends (length order)) (over (allOrders base cs levels 0 ends) order) order
+
+-- Marks answers how many characters it put in drawing order, all of them; `flags` and `room` are how many flags and places
+-- it is lent. What it writes is the list that Stacking.Draws tells
+unfoldable pub marksAnswer : List ℕ → ℕ → ℕ → Answer
+marksAnswer cs flags room = answered (checksOfMarks cs flags room) (length cs)

@@ -20,6 +20,8 @@ pub mod Neutral
 pub mod Implicit
 pub mod Resolve
 pub mod Line
+pub mod Canonical
+pub mod Stacking
 pub mod Refusals
 pub mod Jobs
 pub mod Table

@@ -1,4 +1,4 @@
--- The ten refusals: the number and the place of each, and the order of checks of each job.
+-- The refusals: the number and the place of each, and the order of checks of each job.
 use Prim.Native.Nat.{ℕ, zero, suc, _-_}
 use mathlib.Core.Bool.{Bool, true, false, _||_, not}
 use mathlib.Core.List.{List, [], _∷_}
@@ -94,6 +94,10 @@ endsRiseTo before (end ∷ ends) last = if ltb before end then endsRiseTo end en
 unfoldable pub checkEnds : List ℕ → List ℕ → Check
 checkEnds cs ends = refuseWhere (isEmpty ends || not (endsRiseTo 0 ends (length cs))) 10
 
+-- 16: fewer flags, or fewer places for the order, than characters
+unfoldable pub checkMarkRoom : List ℕ → ℕ → ℕ → Check
+checkMarkRoom cs flags room = refuseWhere (ltb flags (length cs) || ltb room (length cs)) 16
+
 -- the checks of each job, each made only where those before it found nothing wrong
 unfoldable pub checksOfBase : List ℕ → Check
 checksOfBase cs = checkClasses cs
@@ -112,6 +116,10 @@ checksOfLine cs levels base from to room =
 unfoldable pub checksOfLines : List ℕ → List ℕ → ℕ → List ℕ → ℕ → Check
 checksOfLines cs levels base ends room =
     checksOfOrder cs levels base andThen checkEnds cs ends andThen checkOrderRoom (length cs) room
+
+-- a character's combining class may be any byte
+unfoldable pub checksOfMarks : List ℕ → ℕ → ℕ → Check
+checksOfMarks cs flags room = checkSome cs andThen checkLength cs andThen checkMarkRoom cs flags room
 
 -- Cut's own: 1; then at most 4,096 positions are looked at: 2 where an unknown class comes before any B,
 -- 3 where there is no B among them and more follow. `left` counts the positions that may still be looked at
