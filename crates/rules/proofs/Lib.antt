@@ -7,4 +7,5 @@ pub mod Table
 pub mod Passes
 pub mod Filling
 pub mod Settling
+pub mod EquivalentLaws
 pub mod CanonicalLaws
