@@ -9,3 +9,5 @@ pub mod Filling
 pub mod Settling
 pub mod EquivalentLaws
 pub mod CanonicalLaws
+pub mod Every
+pub mod Ranking

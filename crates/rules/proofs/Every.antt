@@ -1,0 +1,30 @@
+-- What holds of every element of a list. Assumes nothing.
+use mathlib.Core.Bool.{Bool}
+use mathlib.Core.Path.{sym, subst}
+use mathlib.Core.List.{List, [], _∷_, _++_}
+use Rattle.rules.proofs.Passes.{by-test}
+use Rattle.rules.proofs.Settling.{insert, sort, goes-behind, stays-before, insert-nil, sort-nil, sort-first}
+
+abbrev pub Every : {A : Type 0} → (A → Type 0) → List A → Type 0
+Every P [] = Unit {0}
+Every P (x ∷ xs) = P x × Every P xs
+
+module _ {A : Type 0} (P : A → Type 0) where
+  pub every-append : (xs ys : List A) → Every P xs → Every P ys → Every P (xs ++ ys)
+  every-append [] ys f g = g
+  every-append (x ∷ xs) ys f g = (f .0, every-append xs ys (f .1) g)
+
+  every-insert : (passes : A → A → Bool) (x : A) (xs : List A) → P x → Every P xs → Every P (insert passes x xs)
+  every-insert passes x [] h f = subst (Every P) (sym (insert-nil passes x)) (h, tt)
+  every-insert passes x (y ∷ ys) h f =
+      by-test (passes x y)
+      (λ behind. subst (Every P) (sym (goes-behind passes x y ys behind)) (f .0, every-insert passes x ys h (f .1)))
+      (λ before. subst (Every P) (sym (stays-before passes x y ys before)) (h, f))
+
+  pub every-sort : (passes : A → A → Bool) (xs : List A) → Every P xs → Every P (sort passes xs)
+  every-sort passes [] f = subst (Every P) (sym (sort-nil passes)) tt
+  every-sort passes (x ∷ xs) f = subst (Every P) (sym (sort-first passes x xs)) (every-insert passes x (sort passes xs) (f .0) (every-sort passes xs (f .1)))
+
+pub every-then : {A : Type 0} (P Q : A → Type 0) (xs : List A) → ((x : A) → P x → Q x) → Every P xs → Every Q xs
+every-then P Q [] each f = tt
+every-then P Q (x ∷ xs) each f = (each x (f .0), every-then P Q xs each (f .1))
