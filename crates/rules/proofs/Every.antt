@@ -28,3 +28,11 @@ module _ {A : Type 0} (P : A → Type 0) where
 pub every-then : {A : Type 0} (P Q : A → Type 0) (xs : List A) → ((x : A) → P x → Q x) → Every P xs → Every Q xs
 every-then P Q [] each f = tt
 every-then P Q (x ∷ xs) each f = (each x (f .0), every-then P Q xs each (f .1))
+
+pub every-both : {A : Type 0} (P Q R : A → Type 0) (xs : List A) → ((x : A) → P x → Q x → R x) → Every P xs → Every Q xs → Every R xs
+every-both P Q R [] each f g = tt
+every-both P Q R (x ∷ xs) each f g = (each x (f .0) (g .0), every-both P Q R xs each (f .1) (g .1))
+
+pub every-one : {A : Type 0} (P : A → Type 0) (xs : List A) → ((x : A) → P x) → Every P xs
+every-one P [] each = tt
+every-one P (x ∷ xs) each = (each x, every-one P xs each)
