@@ -1,3 +1,4 @@
 -- Laws that the proofs of this crate cite.
 pub mod KeepsLaws
+pub mod AlikeLaws
 pub mod StepLaws
