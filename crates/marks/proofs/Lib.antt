@@ -2,3 +2,5 @@
 pub mod KeepsLaws
 pub mod AlikeLaws
 pub mod StepLaws
+pub mod RankLaws
+pub mod TextLaws

@@ -7,7 +7,7 @@ pub mod Table
 pub mod Passes
 pub mod Filling
 pub mod Settling
-pub mod EquivalentLaws
-pub mod CanonicalLaws
 pub mod Every
 pub mod Ranking
+pub mod EquivalentLaws
+pub mod CanonicalLaws
