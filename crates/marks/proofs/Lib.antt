@@ -4,3 +4,5 @@ pub mod AlikeLaws
 pub mod StepLaws
 pub mod RankLaws
 pub mod TextLaws
+pub mod LimitLaws
+pub mod DrawLaws
