@@ -11,3 +11,4 @@ pub mod Every
 pub mod Ranking
 pub mod EquivalentLaws
 pub mod CanonicalLaws
+pub mod ExampleLaws

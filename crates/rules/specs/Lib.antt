@@ -22,6 +22,7 @@ pub mod Resolve
 pub mod Line
 pub mod Canonical
 pub mod Stacking
+pub mod Examples
 pub mod Refusals
 pub mod Jobs
 pub mod Table
