@@ -6,18 +6,13 @@ use mathlib.Core.Path.{_≡_, refl, sym, ap, subst, _∙_}
 use mathlib.Core.Bool.{Bool, true, _||_}
 use mathlib.Core.List.{List, [], _∷_, _++_}
 use lib.ListN.{length, getD, drop, set, length-set}
-use lib.Seq.{drop-cons, drop-length, drop-set-lt, getD-set-same, lt-length-set}
+use lib.Seq.{drop-cons, drop-length}
 use Rattle.rules.specs.Choice.{if_then_else_}
 use Rattle.rules.specs.Classes.{isRemoved, isSeparator, isBlank}
 use Rattle.rules.specs.Jobs.{over}
 use Rattle.rules.specs.Line.{L1, blankAhead}
+use Rattle.rules.proofs.Lists.{drop-set-here}
 use Rattle.line.specs.Tails.{levelAt}
-
--- what stands at k on after a write at k
-pub drop-set-here : (out : List ℕ) (k v : ℕ) → k < length out → drop k (set out k v) ≡ v ∷ drop (suc k) out
-drop-set-here out k v h =
-    drop-cons (set out k v) k 0 (lt-length-set out k v h)
-    ∙ (λ j. getD-set-same out k v 0 h j ∷ drop-set-lt (suc k) out k v (omega arith) j)
 
 abbrev pub aheadOf : ℕ → Bool → Bool
 aheadOf c ahead = if isRemoved c || isBlank c then ahead else isSeparator c

@@ -8,6 +8,8 @@ pub mod Passes
 pub mod Filling
 pub mod Settling
 pub mod Every
+pub mod Placing
+pub mod Positions
 pub mod Ranking
 pub mod EquivalentLaws
 pub mod CanonicalLaws
