@@ -5,4 +5,5 @@ pub mod StepLaws
 pub mod RankLaws
 pub mod TextLaws
 pub mod LimitLaws
+pub mod JoinLaws
 pub mod DrawLaws

@@ -1,1 +1,2 @@
 // Marks.
+mod stretch;
