@@ -1,7 +1,10 @@
 -- What holds of every element of a list. Assumes nothing.
+use Prim.Native.Nat.{ℕ, zero, suc, _<_}
+use native.Mathlib.Nat.{le-of-suc-le-suc, not-suc-le-zero}
 use mathlib.Core.Bool.{Bool}
 use mathlib.Core.Path.{sym, subst}
 use mathlib.Core.List.{List, [], _∷_, _++_}
+use lib.ListN.{length, getD}
 use Rattle.rules.proofs.Passes.{by-test}
 use Rattle.rules.proofs.Settling.{insert, sort, goes-behind, stays-before, insert-nil, sort-nil, sort-first}
 
@@ -36,3 +39,9 @@ every-both P Q R (x ∷ xs) each f g = (each x (f .0) (g .0), every-both P Q R x
 pub every-one : {A : Type 0} (P : A → Type 0) (xs : List A) → ((x : A) → P x) → Every P xs
 every-one P [] each = tt
 every-one P (x ∷ xs) each = (each x, every-one P xs each)
+
+-- at each place
+pub every-at : {A : Type 0} (holds : A → Type 0) (d : A) (xs : List A) (i : ℕ) → Every holds xs → i < length xs → holds (getD xs i d)
+every-at holds d [] i hs h = absurd (not-suc-le-zero h)
+every-at holds d (x ∷ xs) zero hs h = hs .0
+every-at holds d (x ∷ xs) (suc i) hs h = every-at holds d xs i (hs .1) (le-of-suc-le-suc h)

@@ -9,6 +9,7 @@ pub mod Filling
 pub mod Settling
 pub mod Every
 pub mod Placing
+pub mod Sinking
 pub mod Positions
 pub mod Ranking
 pub mod EquivalentLaws
