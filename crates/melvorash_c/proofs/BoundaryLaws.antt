@@ -5,7 +5,7 @@ use mathlib.Core.List.{List}
 use Rattle.rules.specs.Jobs.{Answer, accepted, refused}
 use Rattle.refusals.specs.Page.{numberOf, placeOf}
 use Rattle.refusals.specs.declared.Refusal.{Refusal}
-use Rattle.refusals.specs.declared.Refusal.the-variants.{NoClasses, UnknownClass, TooLong, EarlySeparator, BadBase, ShortLevels, BadLevel, BadLine, ShortOrder, BadEnds}
+use Rattle.refusals.specs.declared.Refusal.the-variants.{NoClasses, UnknownClass, TooLong, EarlySeparator, BadBase, ShortLevels, BadLevel, BadLine, ShortOrder, BadEnds, ShortBuffer}
 use Rattle.melvorash.specs.Answers.{orderPage, OrdersLine, OrdersLines}
 use Rattle.melvorash.specs.declared.answers.OrderAnswer.{OrderAnswer}
 use Rattle.melvorash_c.specs.Boundary.{numbersOf, readOff, Gives, FillsLine, FillsLines}
@@ -23,6 +23,7 @@ refusal-reads (BadLevel at) = refl
 refusal-reads BadLine = refl
 refusal-reads ShortOrder = refl
 refusal-reads BadEnds = refl
+refusal-reads ShortBuffer = refl
 
 pub gives-refusal : (f : Refusal) (number place : ℕ) → number ≡ numberOf f → place ≡ placeOf f → Gives (refused (numberOf f) (placeOf f)) (record { refusal = number; place = place; value = 0 })
 gives-refusal f number place n p = rw (n, p) (record { numbers = refl; reads = refusal-reads f })

@@ -11,7 +11,7 @@ use lib.Dec.{eqb, ltb}
 use lib.ListN.{length, getD, drop, drop-of-length-le}
 use Rattle.rules.specs.Choice.{if_then_else_}
 use Rattle.rules.specs.Classes.{isUnknown, isRemoved, isParagraphEnd}
-use Rattle.rules.specs.Refusals.{Check, sound, refuse, _andThen_, isEmpty, checkSome, checkLength, faultAt, firstFault, checkClasses, isBadLevel, firstBadLevel, endsRiseTo, checkEnds}
+use Rattle.rules.specs.Refusals.{Check, sound, refuse, _andThen_, isEmpty, checkSome, checkLength, faultAt, firstFault, checkClasses, isBadLevel, firstBadLevel, endsRiseTo, checkEnds, checkMarkRoom, checksOfMarks}
 use Rattle.rules.proofs.Lists.{drop-next}
 
 -- ---- the fault at one position
@@ -55,23 +55,36 @@ pub walk-done : (cs : List ℕ) (i : ℕ) (whole : Check) → length cs ≤ i �
 unfolding firstFault
 walk-done cs i whole h e = rw (drop-of-length-le cs h) at e
 
--- ---- the checks of the classes
-pub classes-none : (cs : List ℕ) → length cs ≡ 0 → refuse 1 0 ≡ checkClasses cs
-unfolding checkClasses checkSome
-classes-none [] h = refl
-classes-none (c ∷ cs) h = absurd (omega arith)
+-- ---- the checks of the count
+pub count-none : (cs : List ℕ) → length cs ≡ 0 → refuse 1 0 ≡ (checkSome cs andThen checkLength cs)
+unfolding checkSome
+count-none [] h = refl
+count-none (c ∷ cs) h = absurd (omega arith)
 
 some-is : (cs : List ℕ) → (length cs ≡ 0 → ⊥) → isEmpty cs ≡ false
 some-is [] h = absurd (h refl)
 some-is (c ∷ cs) h = refl
 
-pub classes-long : (cs : List ℕ) → (length cs ≡ 0 → ⊥) → 4096 < length cs → refuse 3 0 ≡ checkClasses cs
-unfolding checkClasses checkSome checkLength
-classes-long cs h g = rw (some-is cs h, lt-ltb 4096 (length cs) g)
+pub count-long : (cs : List ℕ) → (length cs ≡ 0 → ⊥) → 4096 < length cs → refuse 3 0 ≡ (checkSome cs andThen checkLength cs)
+unfolding checkSome checkLength
+count-long cs h g = rw (some-is cs h, lt-ltb 4096 (length cs) g)
 
-pub classes-faults : (cs : List ℕ) (found : Check) → (length cs ≡ 0 → ⊥) → length cs ≤ 4096 → found ≡ firstFault 0 cs → found ≡ checkClasses cs
-unfolding checkClasses checkSome checkLength
-classes-faults cs found h g e = rw (some-is cs h, le-ltb 4096 (length cs) g) e
+pub count-right : (cs : List ℕ) → (length cs ≡ 0 → ⊥) → length cs ≤ 4096 → sound ≡ (checkSome cs andThen checkLength cs)
+unfolding checkSome checkLength
+count-right cs h g = rw (some-is cs h, le-ltb 4096 (length cs) g)
+
+-- ---- the checks that begin with the count
+then-parted : (a b c : Check) → (a andThen b andThen c) ≡ ((a andThen b) andThen c)
+then-parted sound b c = refl
+then-parted (refuse number place) b c = refl
+
+pub classes-counted : (cs : List ℕ) → checkClasses cs ≡ ((checkSome cs andThen checkLength cs) andThen firstFault 0 cs)
+unfolding checkClasses
+classes-counted cs = then-parted (checkSome cs) (checkLength cs) (firstFault 0 cs)
+
+pub marks-counted : (cs : List ℕ) (flags room : ℕ) → checksOfMarks cs flags room ≡ ((checkSome cs andThen checkLength cs) andThen checkMarkRoom cs flags room)
+unfolding checksOfMarks
+marks-counted cs flags room = then-parted (checkSome cs) (checkLength cs) (checkMarkRoom cs flags room)
 
 -- ---- the lent levels
 pub bad-removed : (c l : ℕ) → isRemoved c ≡ true → not (eqb l 255) ≡ isBadLevel c l

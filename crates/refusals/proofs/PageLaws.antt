@@ -7,7 +7,7 @@ use Rattle.rules.specs.Refusals.{Check, sound, refuse}
 use Rattle.rules.proofs.Determined.{determined}
 use Rattle.refusals.specs.Page.{numberOf, placeOf, checkOf}
 use Rattle.refusals.specs.declared.Refusal.{Refusal}
-use Rattle.refusals.specs.declared.Refusal.the-variants.{NoClasses, UnknownClass, TooLong, EarlySeparator, BadBase, ShortLevels, BadLevel, BadLine, ShortOrder, BadEnds}
+use Rattle.refusals.specs.declared.Refusal.the-variants.{NoClasses, UnknownClass, TooLong, EarlySeparator, BadBase, ShortLevels, BadLevel, BadLine, ShortOrder, BadEnds, ShortBuffer}
 use Rattle.refusals.specs.declared.Checked.{Checked}
 use Rattle.refusals.specs.declared.Checked.the-variants.{Sound, Refused}
 
@@ -22,7 +22,8 @@ refusalWith n at =
     if eqb n 6 then ShortLevels else
     if eqb n 7 then BadLevel at else
     if eqb n 8 then BadLine else
-    if eqb n 9 then ShortOrder else BadEnds
+    if eqb n 9 then ShortOrder else
+    if eqb n 10 then BadEnds else ShortBuffer
 
 pub refusal-told : (r : Refusal) → refusalWith (numberOf r) (placeOf r) ≡ r
 refusal-told NoClasses = refl
@@ -35,6 +36,7 @@ refusal-told (BadLevel at) = refl
 refusal-told BadLine = refl
 refusal-told ShortOrder = refl
 refusal-told BadEnds = refl
+refusal-told ShortBuffer = refl
 
 -- ---- any two answers of a check that stand for the same finding are equal
 checkedWith : Check → Checked

@@ -7,7 +7,7 @@ use mathlib.Core.List.{List, [], _∷_}
 use borrow.Author.Tests.{ltb-false, leb-false, not-false}
 use lib.Dec.{leb, ltb}
 use lib.ListN.{length}
-use Rattle.rules.specs.Refusals.{Check, sound, refuse, _andThen_, refuseWhere, isEmpty, checkSome, checkLength, firstFault, checkClasses, checkRequest, checkBase, checkLevelRoom, firstBadLevel, checkLine, checkOrderRoom, endsRiseTo, checkEnds, checksOfLevels, checksOfOrder, checksOfLine, checksOfLines}
+use Rattle.rules.specs.Refusals.{Check, sound, refuse, _andThen_, refuseWhere, isEmpty, checkSome, checkLength, firstFault, checkClasses, checkRequest, checkBase, checkLevelRoom, firstBadLevel, checkLine, checkOrderRoom, endsRiseTo, checkEnds, checksOfLevels, checksOfOrder, checksOfLine, checksOfLines, checkMarkRoom, checksOfMarks}
 
 pub never-sound : {number place : ℕ} → refuse number place ≡ sound → ⊥
 never-sound e = let z : _≡_ {A = ℕ} 0 1 = cc in omega arith
@@ -104,4 +104,21 @@ lines-sound cs levels base ends room e =
       order = order-sound cs levels base (both .0);
       rise = not-false (endsRiseTo 0 ends (length cs)) (ends-ok .1);
       fits = ltb-false room (length cs) (test-fails _ _ (later .1));
+    }
+
+pub record MarksSound (cs : List ℕ) (flags room : ℕ) : Type 0 where
+  pub few : length cs ≤ 4096
+  pub flagged : length cs ≤ flags
+  pub fits : length cs ≤ room
+
+pub marks-sound : (cs : List ℕ) (flags room : ℕ) → checksOfMarks cs flags room ≡ sound → MarksSound cs flags room
+unfolding checksOfMarks checkLength checkMarkRoom
+marks-sound cs flags room e =
+    let later = both-sound (checkSome cs) (checkLength cs andThen checkMarkRoom cs flags room) e in
+    let last = both-sound (checkLength cs) (checkMarkRoom cs flags room) (later .1) in
+    let short = neither (ltb flags (length cs)) (ltb room (length cs)) (test-fails _ _ (last .1)) in
+    record {
+      few = ltb-false 4096 (length cs) (test-fails _ _ (last .0));
+      flagged = ltb-false flags (length cs) (short .0);
+      fits = ltb-false room (length cs) (short .1);
     }

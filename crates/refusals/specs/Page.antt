@@ -2,7 +2,7 @@
 use Prim.Native.Nat.{ℕ}
 use Rattle.rules.specs.Refusals.{Check, sound, refuse}
 use Rattle.refusals.specs.declared.Refusal.{Refusal}
-use Rattle.refusals.specs.declared.Refusal.the-variants.{NoClasses, UnknownClass, TooLong, EarlySeparator, BadBase, ShortLevels, BadLevel, BadLine, ShortOrder, BadEnds}
+use Rattle.refusals.specs.declared.Refusal.the-variants.{NoClasses, UnknownClass, TooLong, EarlySeparator, BadBase, ShortLevels, BadLevel, BadLine, ShortOrder, BadEnds, ShortBuffer}
 use Rattle.refusals.specs.declared.Checked.{Checked}
 use Rattle.refusals.specs.declared.Checked.the-variants.{Sound, Refused}
 
@@ -17,6 +17,7 @@ numberOf (BadLevel at) = 7
 numberOf BadLine = 8
 numberOf ShortOrder = 9
 numberOf BadEnds = 10
+numberOf ShortBuffer = 16
 
 -- the first faulty position for 2, 4 and 7, otherwise 0
 abbrev pub placeOf : Refusal → ℕ
@@ -30,6 +31,7 @@ placeOf (BadLevel at) = at
 placeOf BadLine = 0
 placeOf ShortOrder = 0
 placeOf BadEnds = 0
+placeOf ShortBuffer = 0
 
 abbrev pub checkOf : Checked → Check
 checkOf Sound = sound

@@ -1,9 +1,9 @@
-// The ten refusals, and the checks that the jobs make before they write anything. Each check answers
+// The eleven refusals, and the checks that the jobs make before they write anything. Each check answers
 // what the definition of that check says, in the page's numbers and places.
 ghost use mathlib.Core.Path.{_≡_};
 ghost use Prim.Native.Nat.{_+_, _≤_, _<_};
 ghost use lib.ListN.{length, getD, drop};
-ghost use Rattle.rules.specs.Refusals.{faultAt, firstFault, checkClasses, isBadLevel, firstBadLevel, endsRiseTo, checksOfLevels, checksOfOrder, checksOfLine, checksOfLines};
+ghost use Rattle.rules.specs.Refusals.{_andThen_, checkSome, checkLength, faultAt, firstFault, checkClasses, isBadLevel, firstBadLevel, endsRiseTo, checksOfLevels, checksOfOrder, checksOfLine, checksOfLines, checksOfMarks};
 ghost use Rattle.rules.proofs.Any.{anyOf, anyPair};
 ghost use Rattle.refusals.specs.Page.{checkOf, numberOf, placeOf};
 ghost use Rattle.refusals.specs.Faults.{isFault};
@@ -25,6 +25,7 @@ pub enum Refusal {
     BadLine,
     ShortOrder,
     BadEnds,
+    ShortBuffer,
 }
 
 // A refusal in the page's terms.
@@ -43,6 +44,7 @@ impl Refusal {
             Refusal::BadLine => 8,
             Refusal::ShortOrder => 9,
             Refusal::BadEnds => 10,
+            Refusal::ShortBuffer => 16,
         }
     }
 
@@ -60,6 +62,7 @@ impl Refusal {
             Refusal::BadLine => 0,
             Refusal::ShortOrder => 0,
             Refusal::BadEnds => 0,
+            Refusal::ShortBuffer => 0,
         }
     }
 }
@@ -140,15 +143,26 @@ pub(crate) fn first_fault(classes: &[u8]) -> Checked
     fault_at(classes, last)
 }
 
-// What every job but Cut asks of a paragraph's classes: 1, 3, then 2 or 4.
-pub fn check_classes(classes: &[u8]) -> Checked
-    ensures { λ r. ⌜ checkOf r ≡ checkClasses (now (classes .entry)) ⌝ }
+// What every job but Cut asks of the count of classes: 1, then 3.
+pub(crate) fn check_count(classes: &[u8]) -> Checked
+    ensures { λ r. ⌜ checkOf r ≡ (checkSome (now (classes .entry)) andThen checkLength (now (classes .entry))) ⌝ }
 {
     if classes.len() == 0 {
         return Checked::Refused(Refusal::NoClasses);
     }
     if LONGEST < classes.len() {
         return Checked::Refused(Refusal::TooLong);
+    }
+    Checked::Sound
+}
+
+// What the jobs of a paragraph ask of its classes: 1, 3, then 2 or 4.
+pub fn check_classes(classes: &[u8]) -> Checked
+    ensures { λ r. ⌜ checkOf r ≡ checkClasses (now (classes .entry)) ⌝ }
+{
+    let counted = check_count(classes);
+    if let Checked::Refused(refusal) = counted {
+        return Checked::Refused(refusal);
     }
     first_fault(classes)
 }
@@ -299,4 +313,21 @@ pub fn check_lines(classes: &[u8], levels: &[u8], base: u8, ends: &[u16], places
         return Checked::Sound;
     }
     Checked::Refused(Refusal::BadEnds)
+}
+
+// The checks of Marks; `flags` and `places` are how many flags and places it is lent.
+pub fn check_marks(classes: &[u8], flags: usize, places: usize) -> Checked
+    ensures { λ r. ⌜ checkOf r ≡ checksOfMarks (now (classes .entry)) flags places ⌝ }
+{
+    let counted = check_count(classes);
+    if let Checked::Refused(refusal) = counted {
+        return Checked::Refused(refusal);
+    }
+    if flags < classes.len() {
+        return Checked::Refused(Refusal::ShortBuffer);
+    }
+    if places < classes.len() {
+        return Checked::Refused(Refusal::ShortBuffer);
+    }
+    Checked::Sound
 }

@@ -8,7 +8,7 @@
 --   N1, N2             Neutral, each under its name
 --   I1, I2             Implicit, each under its name
 --   L1, L2             Line, each under its name
--- Refusals has the ten refusals and each job's order of checks, Jobs what each job answers and leaves in its buffer,
+-- Refusals has the eleven refusals and each job's order of checks, Jobs what each job answers and leaves in its buffer,
 -- Table the eleven rows of document 01 that are proved.
 pub mod Choice
 pub mod Classes

@@ -1,21 +1,37 @@
--- `refusals::check_classes` meets its contract: each return is one way through the checks in turn.
+-- `refusals::check_classes` meets its contract: the refusal of the count, or where there is none the first fault.
 -- Assumes nothing.
-use Rattle.refusals.proofs.CheckLaws.{classes-none, classes-long, classes-faults}
+use mathlib.Core.Path.{sym, _∙_, ap}
+use Rattle.refusals.specs.Page.{checkOf}
+use Rattle.refusals.proofs.CheckLaws.{classes-counted}
 use borrow.Author.Needs.{needs}
 use Rattle.refusals.proofs.check_classes.Statement.{statement}
 use Rattle.refusals.proofs.check_classes.Tie as tie
 
-returns : tie.Need-returns
-returns c = classes-none _ (c .if1 .taken)
+check-count-requires : tie.Need-check-count-requires
+check-count-requires c κs = search needs
 
-returns-2 : tie.Need-returns-2
-returns-2 c = classes-long _ (c .before .if1 .left) (c .if2 .taken)
+enum-known-counted : tie.Need-enum-known-counted
+enum-known-counted c = search needs
+
+returns : tie.Need-returns
+returns c = rw (classes-counted, sym (c .before .before .before .check-count .ensures) ∙ ap checkOf (c .before .counted .given .1))
+
+enum-told : tie.Need-enum-told
+enum-told c = search needs
 
 first-fault-requires : tie.Need-first-fault-requires
 first-fault-requires c κs = search needs
 
-returns-3 : tie.Need-returns-3
-returns-3 c = classes-faults _ _ (c .before .before .if1 .left) (c .before .if2 .left) (c .first-fault .ensures)
+returns-2 : tie.Need-returns-2
+returns-2 c = rw (classes-counted, sym (c .before .before .before .check-count .ensures) ∙ ap checkOf (c .before .enum-told .given .1)) (c .first-fault .ensures)
 
 pub check-classes-spec : {M : Type 1} → statement M
-check-classes-spec = tie.close (tie.spec returns returns-2 first-fault-requires returns-3)
+check-classes-spec =
+    tie.close
+    (tie.spec
+    check-count-requires
+    enum-known-counted
+    returns
+    enum-told
+    first-fault-requires
+    returns-2)
