@@ -1,2 +1,3 @@
 pub mod Keeps
 pub mod Ranks
+pub mod Answers

@@ -7,6 +7,7 @@ use native.Mathlib.Nat.{le-of-suc-le-suc, not-suc-le-zero}
 use native.Mathlib.Omega.{arith}
 use mathlib.Core.Bool.{Bool, true, false}
 use mathlib.Core.Path.{_≡_, refl, sym, ap, _∙_}
+use mathlib.Core.Logic.{_⊎_, inl, inr}
 use mathlib.Core.List.{List, [], _∷_, _++_, map, append-nil, append-assoc}
 use lib.ListN.{length, getD, take, drop, set, replicate, length-set, length-drop, length-replicate, drop-of-length-le}
 use lib.Seq.{take-all, drop-nil, getD-drop, drop-drop}
@@ -129,6 +130,11 @@ span-nil test = refl
 pub by-test : {A : Type 0} (b : Bool) → (b ≡ true → A) → (b ≡ false → A) → A
 by-test true holds fails = holds refl
 by-test false holds fails = fails refl
+
+-- a case split on the way that the code came, where two ways meet
+pub by-way : {A B C : Type 0} → A ⊎ B → (A → C) → (B → C) → C
+by-way (inl a) one other = one a
+by-way (inr b) one other = other b
 
 pub span-within : (test : ℕ → Bool) (ts : List ℕ) → span test ts ≤ length ts
 span-within test [] = rw (span-nil test) (omega arith)
