@@ -1,6 +1,6 @@
 /*
  * Melvorash for C and C++: the embedding levels and the order of bidirectional text, by section 3.12 of
- * the Unicode Standard 3.0.
+ * the Unicode Standard 3.0, and the drawing order of Arabic marks, by Unicode Standard Annex #53.
  *
  * Link libmelvorash_c.a, for x86-64 Linux. Every function takes any numbers whatever, answers in one struct
  * and does nothing else than fill the buffer that it is lent. What is said of each below is proved.
@@ -55,20 +55,23 @@ extern "C" {
 /* The level of a removed position, one whose class is LRE, LRO, RLE, RLO, PDF or BN. It has no other use. */
 #define MELVORASH_REMOVED 255
 
-/* The highest level of a position that is kept, and the most positions that a paragraph may have. */
+/*
+ * The highest level of a position that is kept, and the most positions that a paragraph may have. So many
+ * characters may also be lent to melvorash_marks.
+ */
 #define MELVORASH_HIGHEST_LEVEL 62
 #define MELVORASH_LONGEST 4096
 
 /*
  * Refusals. A call that refuses has altered no buffer. Where several apply, the first in this order is
  * given: 1, 3, then 2 or 4 at the first faulty position, then 5, 6, 7, 8 or 10, 9. Cut gives only 1, 2 and
- * 3, and looks at nothing after the first paragraph.
+ * 3, and looks at nothing after the first paragraph. melvorash_marks gives only 1, 3 and 16, in this order.
  */
 enum melvorash_refusal {
     MELVORASH_ACCEPTED = 0,
     MELVORASH_NO_CLASSES = 1,      /* there are no classes */
     MELVORASH_UNKNOWN_CLASS = 2,   /* a class is above 18; place: the first faulty position */
-    MELVORASH_TOO_LONG = 3,        /* the paragraph has more than 4,096 positions */
+    MELVORASH_TOO_LONG = 3,        /* there are more than 4,096 positions or characters */
     MELVORASH_EARLY_SEPARATOR = 4, /* B stands before the last position; place: the first faulty position */
     MELVORASH_BAD_BASE = 5,        /* the base request is above 2, or the base of an order above 1 */
     MELVORASH_SHORT_LEVELS = 6,    /* the level buffer has fewer positions than the paragraph */
@@ -77,8 +80,9 @@ enum melvorash_refusal {
     MELVORASH_BAD_LINE = 8,        /* `from` is not below `to`, or `to` is beyond the paragraph */
     MELVORASH_SHORT_ORDER = 9,     /* the order buffer is shorter than the line, or than the paragraph for all
                                       lines, removed positions counted */
-    MELVORASH_BAD_ENDS = 10        /* the ends are none, begin with 0, do not rise strictly, or their last is
+    MELVORASH_BAD_ENDS = 10,       /* the ends are none, begin with 0, do not rise strictly, or their last is
                                       not the paragraph's length */
+    MELVORASH_SHORT_BUFFER = 16    /* there are fewer flags or places of the order than characters */
 };
 
 /*
@@ -125,6 +129,17 @@ melvorash_answer melvorash_order_line(const uint8_t *classes, size_t class_count
 melvorash_answer melvorash_order_lines(const uint8_t *classes, size_t class_count, const uint8_t *levels,
                                        size_t level_count, uint8_t base, const uint16_t *ends,
                                        size_t end_count, uint16_t *order, size_t order_count);
+
+/*
+ * The drawing order of decomposed characters for marks that stack from the inside out. Takes each
+ * character's combining class, any byte, and a flag, not 0 for the modifier combining marks of the annex.
+ * First comes canonical ordering. Then, in each longest stretch of classes that are not 0, class 33 goes to
+ * the stretch's beginning; before it go those of class 230 up to the first that is not flagged, and before
+ * these the same of class 220. Other flags have no effect. Characters of class 0 stay, and nothing moves past
+ * them. Writes the class_count positions in drawing order and nothing after them. Answers class_count.
+ */
+melvorash_answer melvorash_marks(const uint8_t *classes, size_t class_count, const uint8_t *flags,
+                                 size_t flag_count, uint16_t *order, size_t order_count);
 
 #ifdef __cplusplus
 }
