@@ -18,6 +18,7 @@ extern "C" {
     fn melvorash_resolve(classes: *const u8, class_count: usize, request: u8, levels: *mut u8, level_count: usize) -> Answer;
     fn melvorash_order_line(classes: *const u8, class_count: usize, levels: *const u8, level_count: usize, base: u8, from: usize, to: usize, order: *mut u16, order_count: usize) -> Answer;
     fn melvorash_order_lines(classes: *const u8, class_count: usize, levels: *const u8, level_count: usize, base: u8, ends: *const u16, end_count: usize, order: *mut u16, order_count: usize) -> Answer;
+    fn melvorash_marks(classes: *const u8, class_count: usize, flags: *const u8, flag_count: usize, order: *mut u16, order_count: usize) -> Answer;
 }
 
 pub(crate) fn cut(classes: &[u8]) -> Answer {
@@ -75,6 +76,19 @@ pub(crate) fn order_lines(
             base,
             ends.as_ptr(),
             ends.len(),
+            order.as_mut_ptr(),
+            order.len(),
+        )
+    }
+}
+
+pub(crate) fn marks(classes: &[u8], flags: &[u8], order: &mut [u16]) -> Answer {
+    unsafe {
+        melvorash_marks(
+            classes.as_ptr(),
+            classes.len(),
+            flags.as_ptr(),
+            flags.len(),
             order.as_mut_ptr(),
             order.len(),
         )

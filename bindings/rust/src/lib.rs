@@ -1,4 +1,5 @@
-//! The embedding levels and the order of bidirectional text, by section 3.12 of the Unicode Standard 3.0.
+//! The embedding levels and the order of bidirectional text, by section 3.12 of the Unicode Standard 3.0, and
+//! the drawing order of Arabic marks ([`marks`]), by Unicode Standard Annex #53.
 //!
 //! A paragraph is lent as the numbers of its [`Class`]es, one byte for each position. Resolve its levels,
 //! choose where its lines end, and order each line:
@@ -36,7 +37,7 @@ pub const RIGHT_TO_LEFT: u8 = 1;
 pub const BY_TEXT: u8 = 2;
 /// The level of a removed position, one of class LRE, LRO, RLE, RLO, PDF or BN.
 pub const REMOVED: u8 = 255;
-/// The most positions that a paragraph may have.
+/// The most positions that a paragraph may have, and the most characters that [`marks`] takes.
 pub const LONGEST: usize = 4096;
 
 /// The length of the first paragraph: it ends after the first B, or where the classes end.
@@ -89,6 +90,25 @@ pub fn order_lines(
     order: &mut [u16],
 ) -> Result<usize, Refusal> {
     outcome(boundary::order_lines(classes, levels, base, ends, order))
+}
+
+/// Writes the positions of decomposed characters in the order in which their marks are drawn, from the inside
+/// out, and nothing after them. Answers how many, which is all of them.
+///
+/// `classes` are combining classes here, any bytes, and a flag is not 0 for the annex's modifier combining
+/// marks. After canonical ordering, in each longest stretch of classes that are not 0, class 33 goes to the
+/// beginning; before it go those of class 230 up to the first that is not flagged, and before these the same
+/// of class 220. Nothing moves past a character of class 0.
+///
+/// ```
+/// // a letter, damma, shadda and hamza above, which is a modifier mark: damma is drawn last
+/// let mut order = [0; 4];
+/// let drawn = melvorash::marks(&[0, 31, 33, 230], &[0, 0, 0, 1], &mut order)?;
+/// assert_eq!((drawn, order), (4, [0, 3, 2, 1]));
+/// # Ok::<(), melvorash::Refusal>(())
+/// ```
+pub fn marks(classes: &[u8], flags: &[u8], order: &mut [u16]) -> Result<usize, Refusal> {
+    outcome(boundary::marks(classes, flags, order))
 }
 
 /// A base level is 0 or 1, so it fits a byte.

@@ -9,7 +9,7 @@ pub enum Refusal {
     NoClasses,
     /// A class is above 18.
     UnknownClass(usize),
-    /// The paragraph has more than 4,096 positions.
+    /// There are more than 4,096 positions or characters.
     TooLong,
     /// Class B stands before the last position.
     EarlySeparator(usize),
@@ -25,10 +25,12 @@ pub enum Refusal {
     ShortOrder,
     /// The ends are none, begin with 0, do not rise strictly, or their last is not the paragraph's length.
     BadEnds,
+    /// There are fewer flags or places of the order than characters.
+    ShortBuffer,
 }
 
 impl Refusal {
-    /// The number of the refusal, 1 to 10.
+    /// The number of the refusal, 1 to 10 or 16.
     pub fn number(self) -> usize {
         match self {
             Refusal::NoClasses => 1,
@@ -41,6 +43,7 @@ impl Refusal {
             Refusal::BadLine => 8,
             Refusal::ShortOrder => 9,
             Refusal::BadEnds => 10,
+            Refusal::ShortBuffer => 16,
         }
     }
 
@@ -58,7 +61,7 @@ impl fmt::Display for Refusal {
         match self {
             Refusal::NoClasses => write!(f, "there are no classes"),
             Refusal::UnknownClass(at) => write!(f, "the class at position {at} is unknown"),
-            Refusal::TooLong => write!(f, "the paragraph has more than 4,096 positions"),
+            Refusal::TooLong => write!(f, "there are more than 4,096 positions or characters"),
             Refusal::EarlySeparator(at) => write!(f, "B stands at position {at}, which is not the last"),
             Refusal::BadBase => write!(f, "there is no such base level"),
             Refusal::ShortLevels => write!(f, "the level buffer is shorter than the paragraph"),
@@ -66,6 +69,7 @@ impl fmt::Display for Refusal {
             Refusal::BadLine => write!(f, "the line is empty or goes beyond the paragraph"),
             Refusal::ShortOrder => write!(f, "the order buffer is too short"),
             Refusal::BadEnds => write!(f, "the line ends do not rise to the paragraph's length"),
+            Refusal::ShortBuffer => write!(f, "there are fewer flags or places of the order than characters"),
         }
     }
 }
@@ -87,6 +91,7 @@ pub(crate) fn outcome(answer: Answer) -> Result<usize, Refusal> {
         8 => Err(Refusal::BadLine),
         9 => Err(Refusal::ShortOrder),
         10 => Err(Refusal::BadEnds),
+        16 => Err(Refusal::ShortBuffer),
         number => unreachable!("the library gives no refusal {number}"),
     }
 }

@@ -19,6 +19,7 @@ enum Job {
     Resolve,
     OrderLine,
     OrderLines,
+    Marks,
 }
 
 use Job::*;
@@ -27,11 +28,13 @@ const LEVELS: &[Job] = &[Explicit, Resolve];
 const ORDER: &[Job] = &[OrderLine, OrderLines];
 /// All that check a whole paragraph.
 const CHECKED: &[Job] = &[Base, Explicit, Resolve, OrderLine, OrderLines];
+/// All that take a paragraph.
 const ALL: &[Job] = &[Cut, Base, Explicit, Resolve, OrderLine, OrderLines];
 
 /// What a call is lent; each job takes of it what it has.
 #[derive(Clone, Debug, Default, PartialEq)]
 struct Lent {
+    /// directional, or combining for the marks
     classes: Vec<u8>,
     /// a base request, or the base of an order
     base: u8,
@@ -39,6 +42,7 @@ struct Lent {
     from: usize,
     to: usize,
     ends: Vec<u16>,
+    flags: Vec<u8>,
     /// how many places the buffer has that is filled
     room: usize,
 }
@@ -65,7 +69,7 @@ fn run(job: Job, given: &Lent) -> Outcome {
     let levels = &mut left.levels[..lent.room];
     let order = &mut left.order[..lent.room];
     let wide = |level: u8| usize::from(level);
-    let Lent { classes, base, levels: resolved, from, to, ends, .. } = &lent;
+    let Lent { classes, base, levels: resolved, from, to, ends, flags, .. } = &lent;
     left.answer = match job {
         Cut => melvorash::cut(classes),
         Base => melvorash::base(classes).map(wide),
@@ -73,6 +77,7 @@ fn run(job: Job, given: &Lent) -> Outcome {
         Resolve => melvorash::resolve_levels(classes, *base, levels).map(wide),
         OrderLine => melvorash::order_line(classes, resolved, *base, *from, *to, order),
         OrderLines => melvorash::order_lines(classes, resolved, *base, ends, order),
+        Marks => melvorash::marks(classes, flags, order),
     };
     assert_eq!(&lent, given, "{job:?} wrote to what it only reads");
     left
@@ -178,6 +183,69 @@ fn lines_are_ordered_apart() {
     accepts(OrderLines, &Lent { ends: vec![2, 3], ..whole }, 3, &[], &[0, 1, 2]);
 }
 
+/// Combining classes, flags, the drawing order.
+const STACKS: &[(&[u8], &[u8], &[u16])] = &[
+    (&[0], &[0], &[0]),
+    // shadda stands before damma
+    (&[0, 31, 33], &[0, 0, 0], &[0, 2, 1]),
+    // canonical ordering, and marks of one class stay in their order
+    (&[0, 230, 220, 230, 220], &[0, 0, 0, 0, 0], &[0, 2, 4, 1, 3]),
+    // modifier marks: 220 before 230 before shadda
+    (&[0, 33, 31, 230, 220], &[0, 0, 0, 1, 255], &[0, 4, 3, 1, 2]),
+    (&[0, 31, 230, 230, 230], &[0, 0, 128, 1, 0], &[0, 2, 3, 1, 4]),
+    (&[0, 31, 220, 33, 220, 220], &[0, 0, 2, 0, 0, 1], &[0, 2, 3, 1, 4, 5]),
+    // no effect: a flag behind a mark of its class that has none, and one of another class
+    (&[0, 31, 230, 230], &[0, 0, 0, 1], &[0, 1, 2, 3]),
+    (&[0, 34, 30, 240], &[1, 1, 1, 1], &[0, 2, 1, 3]),
+    // nothing moves past class 0, and a stretch needs none before it
+    (&[0, 31, 0, 33, 0, 230], &[1, 1, 1, 1, 1, 1], &[0, 1, 2, 3, 4, 5]),
+    (&[34, 33, 0, 34, 33], &[0, 0, 0, 0, 0], &[1, 0, 2, 4, 3]),
+    // any byte is a class
+    (&[255, 1, 254], &[0, 0, 0], &[1, 2, 0]),
+];
+
+#[test]
+fn marks_are_put_in_stacking_order() {
+    for &(classes, flags, order) in STACKS {
+        let exact =
+            Lent { classes: classes.to_vec(), flags: flags.to_vec(), room: classes.len(), ..Lent::default() };
+        accepts(Marks, &exact, order.len(), &[], order);
+        let longer = Lent { flags: [flags, &[1, 0]].concat(), room: classes.len() + 3, ..exact };
+        accepts(Marks, &longer, order.len(), &[], order);
+    }
+}
+
+#[test]
+fn bad_marks_are_refused() {
+    let lent = |characters, flags, room| Lent {
+        classes: vec![230; characters],
+        flags: vec![1; flags],
+        room,
+        ..Lent::default()
+    };
+    for (flags, room) in [(0, 0), (1, 2)] {
+        refuses(&[Marks], &lent(0, flags, room), NoClasses);
+    }
+    for (flags, room) in [(LONGEST + 1, LONGEST + 1), (0, LONGEST + 1), (LONGEST + 1, 0), (0, 0)] {
+        refuses(&[Marks], &lent(LONGEST + 1, flags, room), TooLong);
+    }
+    for (flags, room) in [(2, 3), (3, 2), (2, 2), (0, 4), (4, 0), (0, 0)] {
+        refuses(&[Marks], &lent(3, flags, room), ShortBuffer);
+    }
+}
+
+#[test]
+fn the_most_characters_are_taken() {
+    let sukun_and_shadda = [34, 33].repeat(LONGEST / 2);
+    let (sukuns, shaddas) = ((0..LONGEST as u16).step_by(2), (1..LONGEST as u16).step_by(2));
+    let order: Vec<u16> = shaddas.chain(sukuns).collect();
+    let flags = vec![0; LONGEST];
+    let most = Lent { classes: sukun_and_shadda, flags, room: LONGEST, ..Lent::default() };
+    accepts(Marks, &most, LONGEST, &[], &order);
+    refuses(&[Marks], &Lent { flags: vec![0; LONGEST - 1], ..most.clone() }, ShortBuffer);
+    refuses(&[Marks], &Lent { room: LONGEST - 1, ..most }, ShortBuffer);
+}
+
 /// Most bad input here has a second fault, which is not the one to be given.
 #[test]
 fn bad_classes_are_refused() {
@@ -265,10 +333,11 @@ fn refusals_have_their_numbers_places_and_sentences() {
         BadLine,
         ShortOrder,
         BadEnds,
+        ShortBuffer,
     ];
-    for (before, refusal) in all.iter().enumerate() {
+    for (number, refusal) in (1..=10).chain([16]).zip(all) {
         let has_place = matches!(refusal, UnknownClass(_) | EarlySeparator(_) | BadLevel(_));
-        assert_eq!(refusal.number(), before + 1);
+        assert_eq!(refusal.number(), number);
         assert_eq!(refusal.place(), if has_place { 7 } else { 0 });
         assert_eq!(refusal.to_string().contains('7'), has_place);
     }
