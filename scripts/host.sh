@@ -121,7 +121,8 @@ module_for_here() {
     quietly "$tools/bin/clang" --target="$(uname -m)-unknown-linux-gnu" -Wno-override-module -O3 -fPIC -c -x ir \
         "$folder/module.bc" -o "$folder/module.o" || return
     objcopy $(printf -- '--redefine-sym melvorash_%s ' cut=module_cut base=module_base explicit=module_explicit \
-        resolve=module_resolve order_line=module_order_line order_lines=module_order_lines) "$folder/module.o" || return
+        resolve=module_resolve order_line=module_order_line order_lines=module_order_lines marks=module_marks) \
+        "$folder/module.o" || return
     gcc -std=c99 -O2 -fPIC -Iinclude -c tests/c/elsewhere.c -o "$folder/elsewhere.o" &&
         ar rcs "$folder/libmelvorash_c.a" "$folder/module.o" "$folder/elsewhere.o"
 }

@@ -23,11 +23,11 @@ enum {
 
 /* The functions, each a bit, so that a case can name several. */
 enum {
-    CUT = 1, BASE = 2, EXPLICIT = 4, RESOLVE = 8, ORDER_LINE = 16, ORDER_LINES = 32,
+    CUT = 1, BASE = 2, EXPLICIT = 4, RESOLVE = 8, ORDER_LINE = 16, ORDER_LINES = 32, MARKS = 64,
     LEVELS = EXPLICIT | RESOLVE,
     ORDER = ORDER_LINE | ORDER_LINES,
     CHECKED = BASE | LEVELS | ORDER, /* all that check a whole paragraph */
-    ALL = CUT | CHECKED
+    ALL = CUT | CHECKED /* all that take a paragraph */
 };
 
 typedef struct { const uint8_t *at; size_t count; } bytes;
@@ -40,11 +40,12 @@ typedef struct { const uint16_t *at; size_t count; } places;
 typedef struct {
     const char *name;
     unsigned functions;
-    bytes classes;
+    bytes classes; /* directional, or combining for the marks */
     uint8_t base; /* a base request, or the base of an order */
     bytes levels; /* lent to Order */
     size_t from, to;
     places ends;
+    bytes flags;
     size_t room; /* of the buffer that is filled */
     melvorash_answer wanted;
     bytes wanted_levels;
@@ -53,7 +54,7 @@ typedef struct {
 
 /* Everything that a call can reach; two of these are compared as bytes. */
 typedef struct {
-    uint8_t classes[ROOM], lent[ROOM], levels[ROOM];
+    uint8_t classes[ROOM], lent[ROOM], flags[ROOM], levels[ROOM];
     uint16_t ends[ROOM], order[ROOM];
 } buffers;
 
@@ -69,9 +70,10 @@ static melvorash_answer call(const example *e, unsigned function, buffers *b)
     case RESOLVE: return melvorash_resolve(b->classes, n, e->base, b->levels, e->room);
     case ORDER_LINE:
         return melvorash_order_line(b->classes, n, b->lent, lent, e->base, e->from, e->to, b->order, e->room);
-    default:
+    case ORDER_LINES:
         return melvorash_order_lines(b->classes, n, b->lent, lent, e->base, b->ends, e->ends.count, b->order,
                                      e->room);
+    default: return melvorash_marks(b->classes, n, b->flags, e->flags.count, b->order, e->room);
     }
 }
 
@@ -83,7 +85,8 @@ static const char *name_of(unsigned function)
     case EXPLICIT: return "explicit";
     case RESOLVE: return "resolve";
     case ORDER_LINE: return "order_line";
-    default: return "order_lines";
+    case ORDER_LINES: return "order_lines";
+    default: return "marks";
     }
 }
 
@@ -99,6 +102,7 @@ static void lend(const example *e, buffers *b)
     copy(b->classes, e->classes.at, e->classes.count);
     copy(b->lent, e->levels.at, e->levels.count);
     copy(b->ends, e->ends.at, e->ends.count * 2);
+    copy(b->flags, e->flags.at, e->flags.count);
 }
 
 static void judge(const char *function, const char *name, melvorash_answer got, melvorash_answer wanted,
@@ -129,7 +133,7 @@ static void try_one(const example *e, unsigned function)
 static void try_all(const example *examples, size_t count)
 {
     for (size_t i = 0; i < count; i++)
-        for (unsigned function = CUT; function <= ORDER_LINES; function *= 2)
+        for (unsigned function = CUT; function <= MARKS; function *= 2)
             if (examples[i].functions & function)
                 try_one(&examples[i], function);
 }
@@ -237,6 +241,83 @@ static const example refused[] = {
      .ends = PLACES(1, 2), .room = 1, .wanted = {9, 0, 0}},
 };
 
+/* ---- marks: combining classes, flags, the drawing order */
+typedef struct {
+    const char *name;
+    bytes classes, flags;
+    places order;
+} stack;
+
+static const stack stacks[] = {
+    {"one letter", BYTES(0), BYTES(0), PLACES(0)},
+    {"damma, shadda", BYTES(0, 31, 33), BYTES(0, 0, 0), PLACES(0, 2, 1)},
+    {"canonical ordering, one class in its order", BYTES(0, 230, 220, 230, 220), BYTES(0, 0, 0, 0, 0),
+     PLACES(0, 2, 4, 1, 3)},
+    {"220 before 230 before shadda", BYTES(0, 33, 31, 230, 220), BYTES(0, 0, 0, 1, 255), PLACES(0, 4, 3, 1, 2)},
+    {"the flagged front of 230", BYTES(0, 31, 230, 230, 230, 230), BYTES(0, 0, 128, 1, 0, 1),
+     PLACES(0, 2, 3, 1, 4, 5)},
+    {"the flagged front of 220", BYTES(0, 31, 220, 33, 220, 220), BYTES(0, 0, 2, 0, 0, 1),
+     PLACES(0, 2, 3, 1, 4, 5)},
+    {"a flag behind one not flagged", BYTES(0, 31, 230, 230), BYTES(0, 0, 0, 1), PLACES(0, 1, 2, 3)},
+    {"flags on other classes", BYTES(0, 34, 30, 240), BYTES(1, 1, 1, 1), PLACES(0, 2, 1, 3)},
+    {"class 0 between", BYTES(0, 31, 0, 33, 0, 230), BYTES(1, 1, 1, 1, 1, 1), PLACES(0, 1, 2, 3, 4, 5)},
+    {"a stretch with nothing before it", BYTES(34, 33, 0, 34, 33), BYTES(0, 0, 0, 0, 0), PLACES(1, 0, 2, 4, 3)},
+    {"the highest classes", BYTES(255, 1, 254), BYTES(0, 0, 0), PLACES(1, 2, 0)},
+};
+
+/* With buffers that just suffice, and with longer ones. */
+static void try_stack(const stack *s)
+{
+    uint8_t longer_flags[16];
+    memset(longer_flags, 1, sizeof longer_flags);
+    copy(longer_flags, s->flags.at, s->flags.count);
+    const example examples[] = {
+        {.name = s->name, .functions = MARKS, .classes = s->classes, .flags = s->flags, .room = s->classes.count,
+         .wanted = {0, 0, s->order.count}, .wanted_order = s->order},
+        {.name = s->name, .functions = MARKS, .classes = s->classes, .flags = {longer_flags, sizeof longer_flags},
+         .room = s->classes.count + 3, .wanted = {0, 0, s->order.count}, .wanted_order = s->order},
+    };
+    TRY_ALL(examples);
+}
+
+static const example refused_marks[] = {
+    {.name = "no characters", .functions = MARKS, .wanted = {1, 0, 0}},
+    {.name = "no characters, flags and room", .functions = MARKS, .flags = BYTES(1), .room = 2, .wanted = {1, 0, 0}},
+    {.name = "2 flags of 3", .functions = MARKS, .classes = BYTES(0, 33, 30), .flags = BYTES(0, 0), .room = 3,
+     .wanted = {16, 0, 0}},
+    {.name = "no flags", .functions = MARKS, .classes = BYTES(0, 33, 30), .room = 4, .wanted = {16, 0, 0}},
+    {.name = "room for 2 of 3", .functions = MARKS, .classes = BYTES(0, 33, 30), .flags = BYTES(0, 0, 0), .room = 2,
+     .wanted = {16, 0, 0}},
+    {.name = "no room", .functions = MARKS, .classes = BYTES(0), .flags = BYTES(0, 0), .wanted = {16, 0, 0}},
+    {.name = "2 flags of 3, room for 1", .functions = MARKS, .classes = BYTES(0, 33, 30), .flags = BYTES(0, 0),
+     .room = 1, .wanted = {16, 0, 0}},
+};
+
+/* The most characters, sukun and shadda by turns, with a flag or a place too few, and one character more. */
+static void try_most_marks(void)
+{
+    static uint8_t by_turns[LONGEST + 1], zeros[LONGEST + 1];
+    static uint16_t drawn[LONGEST];
+    for (int i = 0; i <= LONGEST; i++)
+        by_turns[i] = i % 2 ? 33 : 34;
+    for (int i = 0; i < LONGEST; i++)
+        drawn[i] = (uint16_t)(i < LONGEST / 2 ? 2 * i + 1 : 2 * i - LONGEST);
+    const bytes most = {by_turns, LONGEST}, more = {by_turns, LONGEST + 1};
+    const bytes flags = {zeros, LONGEST}, fewer_flags = {zeros, LONGEST - 1}, more_flags = {zeros, LONGEST + 1};
+    const example examples[] = {
+        {.name = "4096", .functions = MARKS, .classes = most, .flags = flags, .room = LONGEST,
+         .wanted = {0, 0, LONGEST}, .wanted_order = {drawn, LONGEST}},
+        {.name = "4096, 4095 flags", .functions = MARKS, .classes = most, .flags = fewer_flags, .room = LONGEST,
+         .wanted = {16, 0, 0}},
+        {.name = "4096, room for 4095", .functions = MARKS, .classes = most, .flags = flags, .room = LONGEST - 1,
+         .wanted = {16, 0, 0}},
+        {.name = "4097", .functions = MARKS, .classes = more, .flags = more_flags, .room = LONGEST + 1,
+         .wanted = {3, 0, 0}},
+        {.name = "4097, no flags, no room", .functions = MARKS, .classes = more, .wanted = {3, 0, 0}},
+    };
+    TRY_ALL(examples);
+}
+
 /* ---- the longest paragraph, and one position more */
 static void try_longest(void)
 {
@@ -266,6 +347,7 @@ static void try_null(void)
     static const uint8_t l = L;
     static const uint16_t end = 1;
     const melvorash_answer none = {1, 0, 0}, no_levels = {6, 0, 0}, no_order = {9, 0, 0}, no_ends = {10, 0, 0};
+    const melvorash_answer short_buffer = {16, 0, 0};
     judge("cut", "null", melvorash_cut(NULL, 0), none, 1);
     judge("base", "null", melvorash_base(NULL, 0), none, 1);
     judge("explicit", "null", melvorash_explicit(NULL, 0, 0, NULL, 0), none, 1);
@@ -278,6 +360,9 @@ static void try_null(void)
     judge("order_lines", "null", melvorash_order_lines(NULL, 0, NULL, 0, 0, NULL, 0, NULL, 0), none, 1);
     judge("order_lines", "null ends", melvorash_order_lines(&l, 1, &l, 1, 0, NULL, 0, NULL, 0), no_ends, 1);
     judge("order_lines", "null order", melvorash_order_lines(&l, 1, &l, 1, 0, &end, 1, NULL, 0), no_order, 1);
+    judge("marks", "null", melvorash_marks(NULL, 0, NULL, 0, NULL, 0), none, 1);
+    judge("marks", "null flags and order", melvorash_marks(&l, 1, NULL, 0, NULL, 0), short_buffer, 1);
+    judge("marks", "null order", melvorash_marks(&l, 1, &l, 1, NULL, 0), short_buffer, 1);
 }
 
 int main(void)
@@ -286,6 +371,10 @@ int main(void)
         try_row(&rows[i]);
     TRY_ALL(accepted);
     TRY_ALL(refused);
+    for (size_t i = 0; i < sizeof stacks / sizeof *stacks; i++)
+        try_stack(&stacks[i]);
+    TRY_ALL(refused_marks);
+    try_most_marks();
     try_longest();
     try_null();
     printf("C: %d calls, %d failed\n", calls, failures);

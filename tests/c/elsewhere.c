@@ -12,6 +12,7 @@ void module_order_line(melvorash_answer *, const uint8_t *, size_t, const uint8_
                        size_t, uint16_t *, size_t);
 void module_order_lines(melvorash_answer *, const uint8_t *, size_t, const uint8_t *, size_t, uint8_t,
                         const uint16_t *, size_t, uint16_t *, size_t);
+void module_marks(melvorash_answer *, const uint8_t *, size_t, const uint8_t *, size_t, uint16_t *, size_t);
 
 melvorash_answer melvorash_cut(const uint8_t *classes, size_t class_count)
 {
@@ -58,5 +59,13 @@ melvorash_answer melvorash_order_lines(const uint8_t *classes, size_t class_coun
 {
     melvorash_answer answer;
     module_order_lines(&answer, classes, class_count, levels, level_count, base, ends, end_count, order, order_count);
+    return answer;
+}
+
+melvorash_answer melvorash_marks(const uint8_t *classes, size_t class_count, const uint8_t *flags,
+                                 size_t flag_count, uint16_t *order, size_t order_count)
+{
+    melvorash_answer answer;
+    module_marks(&answer, classes, class_count, flags, flag_count, order, order_count);
     return answer;
 }
