@@ -1,5 +1,6 @@
 //! The refusals. Each function answers one or more of the numbers of document
 //! 01; the callers put them in the order 1, 3, (2 or 4), 5, 6, 7, (8 or 10), 9.
+//! Of the marks they are those of ticket 14, in the order 1, 3, 16.
 
 use crate::classes::{is_removed, is_unknown, B, HIGHEST_RESOLVED, MOST_POSITIONS, REMOVED_LEVEL};
 use crate::Refused;
@@ -103,6 +104,25 @@ pub fn check_ends(classes: &[u8], ends: &[u16]) -> Result<(), Refused> {
 pub fn check_order_room(positions: usize, order: &[u16]) -> Result<(), Refused> {
     if order.len() < positions {
         return Err((9, 0));
+    }
+    Ok(())
+}
+
+/// 1, then 3, of the marks' characters; every class is sound.
+pub fn check_characters(classes: &[u8]) -> Result<(), Refused> {
+    if classes.is_empty() {
+        return Err((1, 0));
+    }
+    if classes.len() > MOST_POSITIONS {
+        return Err((3, 0));
+    }
+    Ok(())
+}
+
+/// 16: fewer flags or fewer places of the order than characters.
+pub fn check_marks_room(classes: &[u8], flags: &[u8], order: &[u16]) -> Result<(), Refused> {
+    if flags.len() < classes.len() || order.len() < classes.len() {
+        return Err((16, 0));
     }
     Ok(())
 }

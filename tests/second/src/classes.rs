@@ -21,7 +21,7 @@ pub const S: u8 = 16;
 pub const WS: u8 = 17;
 pub const ON: u8 = 18;
 
-/// The most positions a paragraph may have.
+/// The most positions a paragraph may have, and the most characters of marks.
 pub const MOST_POSITIONS: usize = 4096;
 
 /// What a level buffer holds at a removed position.

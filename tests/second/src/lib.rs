@@ -1,10 +1,12 @@
 //! A slow, rule-by-rule program for the bidirectional algorithm of the Unicode
-//! Standard 3.0, section 3.12, made to test another library against.
+//! Standard 3.0, section 3.12, and for the drawing order of Arabic marks, made
+//! to test another library against.
 //!
 //! How it was kept independent: it was written from the chapter (source
 //! document 002) and from document 01 alone, before and without sight of the
-//! library's code and definitions. It shares no code, no table and no
-//! definition with that library.
+//! library's code and definitions; the marks likewise, from source documents
+//! 001 and 002 and ticket 14. It shares no code, no table and no definition
+//! with that library.
 //!
 //! How it is laid out: one function for each rule, named after the rule, with
 //! the rule restated above it. Everything is a plain loop over a `Vec`; speed
@@ -17,7 +19,8 @@
 //! - `neutral`: N1 and N2
 //! - `implicit`: I1 and I2
 //! - `line`: L1 and L2
-//! - `checks`: the refusals 1 to 10
+//! - `marks`: R1 to R3, and steps a to c of the marks
+//! - `checks`: the refusals 1 to 10 and 16
 
 #![forbid(unsafe_code)]
 
@@ -26,6 +29,7 @@ mod classes;
 mod explicit;
 mod implicit;
 mod line;
+mod marks;
 mod neutral;
 mod paragraph;
 mod runs;
@@ -34,7 +38,7 @@ mod weak;
 use classes::REMOVED_LEVEL;
 use explicit::Position;
 
-/// A refusal: its number (1 to 10) and its place.
+/// A refusal: its number (1 to 10 or 16) and its place.
 pub type Refused = (u8, usize);
 
 /// The length of the first paragraph of `classes`, its B included.
@@ -127,6 +131,14 @@ pub fn order_lines(
 /// line; 255 stays on removed positions. The input must be sound.
 pub fn line_levels(classes: &[u8], levels: &[u8], base: u8, from: usize, to: usize) -> Vec<u8> {
     line::l1(classes, levels, base, from, to)
+}
+
+/// Writes the drawing order of characters, given as their combining classes and
+/// a flag for each, not 0 for a modifier mark; answers how many places it wrote.
+pub fn marks(classes: &[u8], flags: &[u8], order: &mut [u16]) -> Result<usize, Refused> {
+    let places = marks::marks(classes, flags, order)?;
+    write_order(&places, order);
+    Ok(places.len())
 }
 
 /// P2 and P3 together.
