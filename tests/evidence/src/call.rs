@@ -14,8 +14,10 @@ pub enum Job {
     Resolve,
     OrderLine,
     OrderLines,
+    Marks,
 }
 
+/// All that take a paragraph.
 pub const JOBS: [Job; 7] =
     [Job::Cut, Job::CutPart, Job::Base, Job::Explicit, Job::Resolve, Job::OrderLine, Job::OrderLines];
 
@@ -33,6 +35,9 @@ pub struct Input<'a> {
     pub from: usize,
     pub to: usize,
     pub ends: Cow<'a, [u16]>,
+    /// the marks' own classes and flags
+    pub combining: Cow<'a, [u8]>,
+    pub flags: Cow<'a, [u8]>,
     /// the places of the order buffer
     pub order_room: usize,
 }
@@ -43,7 +48,7 @@ impl Input<'_> {
         match job {
             Job::Cut | Job::CutPart | Job::Base => (0, 0),
             Job::Explicit | Job::Resolve => (self.level_room, 0),
-            Job::OrderLine | Job::OrderLines => (0, self.order_room),
+            Job::OrderLine | Job::OrderLines | Job::Marks => (0, self.order_room),
         }
     }
 
@@ -55,7 +60,7 @@ impl Input<'_> {
         levels: &mut [u8],
         order: &mut [u16],
     ) -> Result<usize, Refused> {
-        let Input { classes, request, base, levels: lent, from, to, ends, .. } = self;
+        let Input { classes, request, base, levels: lent, from, to, ends, combining, flags, .. } = self;
         match job {
             Job::Cut => (program.cut)(classes),
             Job::CutPart => length_of_part(classes, (program.cut_part)(classes)),
@@ -64,6 +69,7 @@ impl Input<'_> {
             Job::Resolve => (program.resolve_levels)(classes, *request, levels).map(usize::from),
             Job::OrderLine => (program.order_line)(classes, lent, *base, *from, *to, order),
             Job::OrderLines => (program.order_lines)(classes, lent, *base, ends, order),
+            Job::Marks => (program.marks)(combining, flags, order),
         }
     }
 }
@@ -83,6 +89,7 @@ impl fmt::Display for Input<'_> {
         writeln!(f, "  request {}, room for levels {}", self.request, self.level_room)?;
         writeln!(f, "  base {}, levels {:?}", self.base, self.levels)?;
         writeln!(f, "  from {} to {}, ends {:?}", self.from, self.to, self.ends)?;
+        writeln!(f, "  combining classes {:?}, flags {:?}", self.combining, self.flags)?;
         write!(f, "  room for the order {}", self.order_room)
     }
 }

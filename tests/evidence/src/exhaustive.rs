@@ -26,14 +26,14 @@ pub fn run() -> bool {
     tally.differences == 0
 }
 
-/// All sequences of a length over the classes; says how many.
-fn each_sequence(classes: &[u8], length: usize, mut each: impl FnMut(&[u8])) -> usize {
-    let count = classes.len().pow(length as u32);
-    let mut sequence = vec![0; length];
+/// All sequences of a length over the values; says how many.
+pub fn each_sequence<T: Copy>(values: &[T], length: usize, mut each: impl FnMut(&[T])) -> usize {
+    let count = values.len().pow(length as u32);
+    let mut sequence = vec![values[0]; length];
     for mut number in 0..count {
         for place in sequence.iter_mut() {
-            *place = classes[number % classes.len()];
-            number /= classes.len();
+            *place = values[number % values.len()];
+            number /= values.len();
         }
         each(&sequence);
     }

@@ -8,16 +8,18 @@ use crate::generator::Generator;
 use crate::memory::{Guarded, Side};
 use crate::program::{LIBRARY, SECOND};
 use crate::tally::Tally;
-use crate::{shapes, spoil, trap};
+use crate::{marks, shapes, spoil, trap};
 
 /// Every length up to this one, and the longest two.
 const SHORT: usize = 100;
 
-/// The five buffers that a call may be lent.
+/// The buffers that a call may be lent.
 struct Buffers {
     classes: Guarded,
     levels: Guarded,
     ends: Guarded,
+    combining: Guarded,
+    flags: Guarded,
     filled_levels: Guarded,
     filled_order: Guarded,
 }
@@ -29,18 +31,22 @@ pub fn run() -> bool {
         classes: Guarded::new(),
         levels: Guarded::new(),
         ends: Guarded::new(),
+        combining: Guarded::new(),
+        flags: Guarded::new(),
         filled_levels: Guarded::new(),
         filled_order: Guarded::new(),
     };
-    try_input(&mut tally, &mut buffers, &Input::default());
+    try_input(&mut tally, &mut buffers, &JOBS, &Input::default());
+    try_input(&mut tally, &mut buffers, &[Job::Marks], &Input::default());
     for length in (1..=SHORT).chain([LONGEST - 1, LONGEST]) {
         try_length(&mut tally, &mut buffers, length);
+        try_marks(&mut tally, &mut buffers, length);
     }
     println!(
-        "guard: {} calls at memory that may not be touched, {} differences; refusals 1 to 10 met: {}",
+        "guard: {} calls at memory that may not be touched, {} differences; refusals 1 to 10 and 16 met: {}",
         tally.calls,
         tally.differences,
-        tally.refusals_met()
+        tally.refusals_met((1..=10).chain([16]))
     );
     tally.differences == 0
 }
@@ -51,12 +57,24 @@ fn try_length(tally: &mut Tally, buffers: &mut Buffers, length: usize) {
     let mut sound = Input::default();
     for request in 0..=2 {
         sound = resolved(random, length, request);
-        try_input(tally, buffers, &sound);
+        try_input(tally, buffers, &JOBS, &sound);
     }
     for number in 1..=10 {
         let mut bad = sound.clone();
         spoil::spoil(random, &mut bad, &[number]);
-        try_input(tally, buffers, &bad);
+        try_input(tally, buffers, &JOBS, &bad);
+    }
+}
+
+/// Marks of a length, with no flag and no place more than they need, and bad input for each fault.
+fn try_marks(tally: &mut Tally, buffers: &mut Buffers, length: usize) {
+    let random = &mut Generator::new(length as u64, 1);
+    let sound = marks::shapes::text_of(random, length);
+    try_input(tally, buffers, &[Job::Marks], &sound);
+    for fault in spoil::MARKS_FAULTS {
+        let mut bad = sound.clone();
+        spoil::spoil_marks(random, &mut bad, &[fault]);
+        try_input(tally, buffers, &[Job::Marks], &bad);
     }
 }
 
@@ -79,8 +97,8 @@ fn resolved(random: &mut Generator, length: usize, request: u8) -> Input<'static
     input
 }
 
-fn try_input(tally: &mut Tally, buffers: &mut Buffers, input: &Input) {
-    for job in JOBS {
+fn try_input(tally: &mut Tally, buffers: &mut Buffers, jobs: &[Job], input: &Input) {
+    for &job in jobs {
         for side in [Side::Begin, Side::End] {
             try_call(tally, buffers, job, side, input);
         }
@@ -96,6 +114,8 @@ fn try_call(tally: &mut Tally, buffers: &mut Buffers, job: Job, side: Side, inpu
         classes: buffers.classes.lend_to_read(side, &input.classes).into(),
         levels: buffers.levels.lend_to_read(side, &input.levels).into(),
         ends: buffers.ends.lend_to_read(side, &input.ends).into(),
+        combining: buffers.combining.lend_to_read(side, &input.combining).into(),
+        flags: buffers.flags.lend_to_read(side, &input.flags).into(),
         ..input.clone()
     };
     let answer = trap::named(&name, || guarded.call(&LIBRARY, job, levels, order));

@@ -43,6 +43,10 @@ pub fn order_lines(
     melvorash::order_lines(classes, levels, base, ends, order).map_err(refused)
 }
 
+pub fn marks(classes: &[u8], flags: &[u8], order: &mut [u16]) -> Result<usize, Refused> {
+    melvorash::marks(classes, flags, order).map_err(refused)
+}
+
 fn refused(refusal: melvorash::Refusal) -> Refused {
     (refusal.number() as u8, refusal.place())
 }

@@ -1,5 +1,6 @@
 //! Evidence from outside that the library's definitions are right: what the library answers beside the
-//! consortium's BidiTest file, beside a second program written apart from it, and beside the law on pairs.
+//! consortium's BidiTest file, beside a second program written apart from it, and beside the law on pairs and
+//! the laws of the marks.
 //! Each command prints what it compared, and ends with status 1 where anything differs.
 mod biditest;
 mod call;
@@ -10,6 +11,7 @@ mod generator;
 mod guard;
 mod law;
 mod library;
+mod marks;
 mod memory;
 mod program;
 mod random;
@@ -23,6 +25,7 @@ use std::process::ExitCode;
 const USAGE: &str = "evidence biditest FILE
 evidence exhaustive
 evidence random --seed N --count N [--progress]
+evidence marks --seed N --count N [--progress]
 evidence guard";
 
 fn main() -> ExitCode {
@@ -42,14 +45,20 @@ fn run(words: &[&str]) -> Result<bool, String> {
     match *words {
         ["biditest", file] => biditest::run(file),
         ["exhaustive"] => Ok(exhaustive::run()),
-        ["random", "--seed", seed, "--count", count] => run_random(seed, count, false),
-        ["random", "--seed", seed, "--count", count, "--progress"] => run_random(seed, count, true),
+        ["random", ref words @ ..] => Ok(random::run(&options(words)?)),
+        ["marks", ref words @ ..] => Ok(marks::run(&options(words)?)),
         ["guard"] => Ok(guard::run()),
         _ => Err(USAGE.to_string()),
     }
 }
 
-fn run_random(seed: &str, count: &str, progress: bool) -> Result<bool, String> {
+/// The options of the commands that have random cases.
+fn options(words: &[&str]) -> Result<random::Options, String> {
+    let (seed, count, progress) = match *words {
+        ["--seed", seed, "--count", count] => (seed, count, false),
+        ["--seed", seed, "--count", count, "--progress"] => (seed, count, true),
+        _ => return Err(USAGE.to_string()),
+    };
     let number = |word: &str| word.parse().map_err(|_| format!("{word} is no number"));
-    Ok(random::run(&random::Options { seed: number(seed)?, count: number(count)?, progress }))
+    Ok(random::Options { seed: number(seed)?, count: number(count)?, progress })
 }

@@ -5,6 +5,7 @@ use second::Refused;
 pub type Levels = fn(&[u8], u8, &mut [u8]) -> Result<u8, Refused>;
 pub type OrderLine = fn(&[u8], &[u8], u8, usize, usize, &mut [u16]) -> Result<usize, Refused>;
 pub type OrderLines = fn(&[u8], &[u8], u8, &[u16], &mut [u16]) -> Result<usize, Refused>;
+pub type Marks = fn(&[u8], &[u8], &mut [u16]) -> Result<usize, Refused>;
 
 pub struct Program {
     pub cut: fn(&[u8]) -> Result<usize, Refused>,
@@ -14,6 +15,7 @@ pub struct Program {
     pub resolve_levels: Levels,
     pub order_line: OrderLine,
     pub order_lines: OrderLines,
+    pub marks: Marks,
 }
 
 pub const LIBRARY: Program = Program {
@@ -24,6 +26,7 @@ pub const LIBRARY: Program = Program {
     resolve_levels: library::resolve_levels,
     order_line: library::order_line,
     order_lines: library::order_lines,
+    marks: library::marks,
 };
 
 pub const SECOND: Program = Program {
@@ -34,4 +37,5 @@ pub const SECOND: Program = Program {
     resolve_levels: second::resolve_levels,
     order_line: second::order_line,
     order_lines: second::order_lines,
+    marks: second::marks,
 };

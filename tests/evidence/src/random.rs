@@ -15,23 +15,28 @@ pub struct Options {
     pub progress: bool,
 }
 
-pub fn run(options: &Options) -> bool {
-    let mut tally = Tally::default();
+/// Runs the cases one after the other, with progress where it is asked for.
+pub fn each_case(options: &Options, tally: &mut Tally, mut run: impl FnMut(&mut Tally, u64)) {
     let mut shown = Instant::now();
     for case in 1..=options.count {
-        Case::new(&mut tally, options.seed, case).run();
+        run(tally, case);
         if options.progress && shown.elapsed() >= BETWEEN_PROGRESS_LINES {
             shown = Instant::now();
-            eprintln!("{case} of {} paragraphs, {} differences", options.count, tally.differences);
+            eprintln!("{case} of {} cases, {} differences", options.count, tally.differences);
         }
     }
+}
+
+pub fn run(options: &Options) -> bool {
+    let mut tally = Tally::default();
+    each_case(options, &mut tally, |tally, case| Case::new(tally, options.seed, case).run());
     println!(
         "random: seed {}: {} paragraphs, {} calls of each program, {} differences; refusals 1 to 10 met: {}",
         options.seed,
         options.count,
         tally.calls,
         tally.differences,
-        tally.refusals_met()
+        tally.refusals_met(1..=10)
     );
     tally.differences == 0
 }

@@ -34,7 +34,7 @@ const CODES: [u8; 14] = [RLE, LRE, RLO, LRO, RLE, LRE, PDF, PDF, PDF, PDF, L, R,
 const LONG: [u8; 16] = [NSM, NSM, ET, ET, ON, WS, WS, BN, CS, EN, RLE, LRE, RLO, PDF, PDF, AL];
 
 /// Mostly short; a quarter just long enough for codes to reach the deepest level.
-fn length(random: &mut Generator) -> usize {
+pub fn length(random: &mut Generator) -> usize {
     match random.between(1, 1000) {
         1 => LONGEST,
         2..=5 => random.between(513, LONGEST),
@@ -44,7 +44,7 @@ fn length(random: &mut Generator) -> usize {
     }
 }
 
-fn drawn(random: &mut Generator, length: usize, from: &[u8]) -> Vec<u8> {
+pub fn drawn(random: &mut Generator, length: usize, from: &[u8]) -> Vec<u8> {
     (0..length).map(|_| random.pick(from)).collect()
 }
 

@@ -22,6 +22,38 @@ pub fn spoil(random: &mut Generator, input: &mut Input, numbers: &[u8]) {
     }
 }
 
+/// What the marks are refused for: 1, 3, and 16 in two ways.
+#[derive(Clone, Copy, PartialEq)]
+pub enum MarksFault {
+    TooMany,
+    ShortFlags,
+    ShortOrder,
+    NoCharacters,
+}
+
+/// In the order in which they go in: each finds the characters that it needs.
+pub const MARKS_FAULTS: [MarksFault; 4] =
+    [MarksFault::TooMany, MarksFault::ShortFlags, MarksFault::ShortOrder, MarksFault::NoCharacters];
+
+pub fn spoil_marks(random: &mut Generator, input: &mut Input, faults: &[MarksFault]) {
+    for fault in MARKS_FAULTS.into_iter().filter(|fault| faults.contains(fault)) {
+        let length = input.combining.len();
+        match fault {
+            MarksFault::TooMany => lengthen_marks(input, LONGEST + random.between(1, 3)),
+            MarksFault::ShortFlags => input.flags.to_mut().truncate(shorter(random, length)),
+            MarksFault::ShortOrder => input.order_room = shorter(random, length),
+            MarksFault::NoCharacters => input.combining.to_mut().clear(),
+        }
+    }
+}
+
+/// As many characters as are asked for, with enough flags and places.
+pub fn lengthen_marks(input: &mut Input, length: usize) {
+    input.combining.to_mut().resize(length, 1);
+    input.flags.to_mut().resize(length, 0);
+    input.order_room = length;
+}
+
 fn unknown_class(random: &mut Generator, input: &mut Input) {
     let at = random.place(input.classes.len());
     input.classes.to_mut()[at] = random.pick(&[FIRST_UNKNOWN, 20, 127, 128, 254, 255]);

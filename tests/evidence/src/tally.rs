@@ -10,7 +10,7 @@ pub struct Tally {
     pub calls: u64,
     pub differences: u64,
     /// How often the library gave each refusal, by its number.
-    refusals: [u64; 11],
+    refusals: [u64; 17],
 }
 
 impl Tally {
@@ -30,8 +30,9 @@ impl Tally {
         }
     }
 
-    /// The counts of the refusals 1 to 10.
-    pub fn refusals_met(&self) -> String {
-        self.refusals[1..].iter().map(u64::to_string).collect::<Vec<String>>().join(" ")
+    /// The counts of the refusals of these numbers.
+    pub fn refusals_met(&self, numbers: impl IntoIterator<Item = usize>) -> String {
+        let count = |number: usize| self.refusals[number].to_string();
+        numbers.into_iter().map(count).collect::<Vec<String>>().join(" ")
     }
 }
