@@ -11,7 +11,7 @@ use Rattle.rules.specs.Classes.{B, isUnknown, isParagraphEnd}
 use Rattle.rules.specs.Paragraph.{P1}
 use Rattle.rules.specs.Refusals.{Check, sound, refuse, isEmpty, checkSome, walk, checksOfCut}
 use Rattle.rules.specs.Jobs.{accepted, refused, answered, whereSound, cutAnswer, cutPart}
-use Rattle.melvorash.proofs.JobLaws.{never-both}
+use Rattle.rules.proofs.JobLaws.{never-both}
 
 walk-after : (cs ds es : List ℕ) (room at : ℕ) → walk room at (cs ++ (B ∷ ds)) ≡ walk room at (cs ++ (B ∷ es))
 unfolding walk isUnknown isParagraphEnd

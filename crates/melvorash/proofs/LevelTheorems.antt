@@ -21,7 +21,7 @@ use Rattle.paragraph.proofs.BaseLaws.{baseOf-small}
 use Rattle.explicit.proofs.ExplicitLaws.{length-levels, explicit-at-most-61}
 use Rattle.resolve.proofs.BoundLaws.{AtMost, at-most-all, resolved-accepted}
 use Rattle.resolve.proofs.WholeLaws.{length-resolved}
-use Rattle.melvorash.proofs.JobLaws.{accepted-sound, never-both}
+use Rattle.rules.proofs.JobLaws.{accepted-sound, never-both}
 use Rattle.melvorash.specs.Answers.{basePage, Leaves}
 use Rattle.melvorash.specs.declared.answers.BaseAnswer.{BaseAnswer}
 

@@ -1,5 +1,4 @@
 -- Laws and theorems on the jobs that belong to no one function.
-pub mod JobLaws
 pub mod CutLaws
 pub mod CutTheorems
 pub mod OrderLaws

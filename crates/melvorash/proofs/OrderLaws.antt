@@ -1,26 +1,17 @@
 -- From what Order leaves to what it displays: demand 3 for a caller. Assumes nothing.
 use Prim.Native.Nat.{ℕ}
 use native.Mathlib.Omega.{arith}
-use mathlib.Core.Path.{_≡_, sym, _∙_}
 use mathlib.Core.List.{List}
-use lib.ListN.{length, take, drop}
-use lib.Seq.{take-append-seam}
+use lib.ListN.{length}
 use Rattle.rules.specs.Line.{lineOrder, allOrders}
-use Rattle.rules.specs.Refusals.{Check, sound, checksOfLine, checksOfLines}
-use Rattle.rules.specs.Jobs.{Answer, accepted, answered, whereSound, over, lineAnswer, lineBuffer, linesAnswer, linesBuffer}
+use Rattle.rules.specs.Refusals.{checksOfLine, checksOfLines}
+use Rattle.rules.specs.Jobs.{lineAnswer, lineBuffer, linesAnswer, linesBuffer}
+use Rattle.rules.proofs.JobLaws.{written-front}
 use Rattle.refusals.proofs.SoundLaws.{line-sound, lines-sound}
 use Rattle.pairwise.proofs.Theorem.{demand3}
 use Rattle.pairwise.proofs.Lines.{each-displayed}
 use Rattle.melvorash.specs.Answers.{orderPage, Leaves, OrdersLine, OrdersLines}
 use Rattle.melvorash.specs.declared.answers.OrderAnswer.{OrderAnswer}
-use Rattle.melvorash.proofs.JobLaws.{accepted-sound}
-
--- where a job accepts, the first places of the buffer are what was to be written
-written-front : (check : Check) (wanted buffer after : List ℕ) (answer : Answer) (k : ℕ) → answer ≡ answered check (length wanted) → after ≡ whereSound check (over wanted buffer) buffer → answer ≡ accepted k → (check ≡ sound) × (take k after ≡ wanted)
-written-front check wanted buffer after answer k a b e =
-    let s = accepted-sound check (length wanted) k (sym a ∙ e) in
-    let left : after ≡ over wanted buffer = b ∙ rw (s .0) in
-    (s .0, rw (left, sym (s .1)) (take-append-seam wanted (drop (length wanted) buffer)))
 
 pub orders-line : (cs levels : List ℕ) (base from to : ℕ) (order : List ℕ) (r : OrderAnswer) (after : List ℕ) → Leaves orderPage (lineAnswer cs levels base from to order) (lineBuffer cs levels base from to order) r after → OrdersLine cs levels base from to order r after
 unfolding lineAnswer lineBuffer

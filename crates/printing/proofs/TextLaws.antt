@@ -20,7 +20,7 @@ use Rattle.resolve.proofs.WholeLaws.{length-resolved}
 use Rattle.melvorash.specs.Answers.{basePage, orderPage, Leaves, OrdersLine}
 use Rattle.melvorash.specs.declared.answers.BaseAnswer.{BaseAnswer}
 use Rattle.melvorash.specs.declared.answers.OrderAnswer.{OrderAnswer}
-use Rattle.melvorash.proofs.JobLaws.{accepted-value, never-both, accepted-sound}
+use Rattle.rules.proofs.JobLaws.{accepted-value, never-both, accepted-sound}
 use Rattle.melvorash.proofs.LevelTheorems.{order-takes-resolved}
 use Rattle.writing.specs.Text.{refusedRow}
 use Rattle.printing.specs.Printing.{paragraphRows, paragraphText}

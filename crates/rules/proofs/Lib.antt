@@ -1,6 +1,7 @@
 -- Laws that every crate above cites.
 pub mod Determined
 pub mod Tests
+pub mod JobLaws
 pub mod Lists
 pub mod Any
 pub mod Table

@@ -7,7 +7,7 @@ use Rattle.rules.specs.Jobs.{over, levelsAnswer, explicitBuffer}
 use Rattle.refusals.specs.Page.{checkOf}
 use Rattle.refusals.proofs.SoundLaws.{levels-sound}
 use Rattle.paragraph.proofs.BaseLaws.{baseOf-small}
-use Rattle.melvorash.proofs.JobLaws.{answer-refused, answer-sound, left-refused, left-sound}
+use Rattle.rules.proofs.JobLaws.{answer-refused, answer-sound, left-refused, left-sound}
 use Rattle.rules.specs.Explicit.{X1, explicitLevels}
 use borrow.Author.Needs.{needs}
 use Rattle.melvorash.proofs.levels.explicit_levels.Statement.{statement}

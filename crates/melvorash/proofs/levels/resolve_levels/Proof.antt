@@ -7,7 +7,7 @@ use Rattle.rules.specs.Jobs.{over, levelsAnswer, resolveBuffer}
 use Rattle.refusals.specs.Page.{checkOf}
 use Rattle.refusals.proofs.SoundLaws.{levels-sound}
 use Rattle.paragraph.proofs.BaseLaws.{baseOf-small}
-use Rattle.melvorash.proofs.JobLaws.{answer-refused, answer-sound, left-refused, left-sound}
+use Rattle.rules.proofs.JobLaws.{answer-refused, answer-sound, left-refused, left-sound}
 use Rattle.rules.specs.Resolve.{resolvedLevels}
 use borrow.Author.Needs.{needs}
 use Rattle.melvorash.proofs.levels.resolve_levels.Statement.{statement}

@@ -6,7 +6,7 @@ use native.Mathlib.Omega.{arith}
 use Rattle.rules.specs.Jobs.{lineAnswer, lineBuffer}
 use Rattle.refusals.specs.Page.{checkOf}
 use Rattle.refusals.proofs.SoundLaws.{line-sound}
-use Rattle.melvorash.proofs.JobLaws.{answer-refused, answer-sound, left-refused, left-sound}
+use Rattle.rules.proofs.JobLaws.{answer-refused, answer-sound, left-refused, left-sound}
 use borrow.Author.Needs.{needs}
 use Rattle.melvorash.proofs.order.order_line.Statement.{statement}
 use Rattle.melvorash.proofs.order.order_line.Tie as tie

@@ -4,7 +4,7 @@ use mathlib.Core.Path.{sym, ap, _∙_}
 use Rattle.rules.specs.Refusals.{checksOfBase}
 use Rattle.rules.specs.Jobs.{baseAnswer}
 use Rattle.refusals.specs.Page.{checkOf}
-use Rattle.melvorash.proofs.JobLaws.{answer-refused, answer-sound}
+use Rattle.rules.proofs.JobLaws.{answer-refused, answer-sound}
 use borrow.Author.Needs.{needs}
 use Rattle.melvorash.proofs.paragraphs.base.Statement.{statement}
 use Rattle.melvorash.proofs.paragraphs.base.Tie as tie

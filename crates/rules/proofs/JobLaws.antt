@@ -1,10 +1,12 @@
 -- From what the checks found to what a job answers and leaves, and back. Assumes nothing.
 use Prim.Native.Nat.{ℕ}
 use native.Mathlib.Omega.{arith}
-use mathlib.Core.Path.{_≡_, refl, sym, ap}
+use mathlib.Core.Path.{_≡_, refl, sym, ap, _∙_}
 use mathlib.Core.List.{List}
+use lib.ListN.{length, take, drop}
+use lib.Seq.{take-append-seam}
 use Rattle.rules.specs.Refusals.{Check, sound, refuse}
-use Rattle.rules.specs.Jobs.{accepted, refused, answered, whereSound}
+use Rattle.rules.specs.Jobs.{Answer, accepted, refused, answered, whereSound, over}
 
 pub answer-refused : {check : Check} {number place : ℕ} (value : ℕ) → check ≡ refuse number place → refused number place ≡ answered check value
 answer-refused value e = rw e
@@ -28,3 +30,10 @@ never-both e = let z : _≡_ {A = ℕ} 0 1 = cc in omega arith
 pub accepted-sound : (check : Check) (value n : ℕ) → answered check value ≡ accepted n → (check ≡ sound) × (value ≡ n)
 accepted-sound sound value n e = (refl, accepted-value e)
 accepted-sound (refuse number place) value n e = absurd (never-both (sym e))
+
+-- where a job accepts, the first places of the buffer are what was to be written
+pub written-front : (check : Check) (wanted buffer after : List ℕ) (answer : Answer) (k : ℕ) → answer ≡ answered check (length wanted) → after ≡ whereSound check (over wanted buffer) buffer → answer ≡ accepted k → (check ≡ sound) × (take k after ≡ wanted)
+written-front check wanted buffer after answer k a b e =
+    let s = accepted-sound check (length wanted) k (sym a ∙ e) in
+    let left : after ≡ over wanted buffer = b ∙ rw (s .0) in
+    (s .0, rw (left, sym (s .1)) (take-append-seam wanted (drop (length wanted) buffer)))
