@@ -7,3 +7,5 @@ pub mod TextLaws
 pub mod LimitLaws
 pub mod JoinLaws
 pub mod DrawLaws
+pub mod JobLaws
+pub mod Determined
