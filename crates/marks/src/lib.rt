@@ -1,5 +1,5 @@
 // The drawing order of marks: canonical ordering, then the steps of Arabic mark rendering. The job
-// checks its input and refuses it with the page's number, and then has altered nothing.
+// checks its input and refuses it with a number, and then has altered nothing.
 mod draw;
 mod stretch;
 

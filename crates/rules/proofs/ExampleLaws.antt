@@ -4,7 +4,7 @@ use Prim.Native.Nat.{ℕ}
 use mathlib.Core.Path.{_≡_, refl}
 use mathlib.Core.List.{List, [], _∷_}
 use lib.ListN.{length}
-use Rattle.rules.specs.Stacking.{taken, left, toBeginning, step2a, step2b, step2c, steps, step2, positions, classOf, isModifier, Draws}
+use Rattle.rules.specs.Stacking.{taken, remaining, toBeginning, step2a, step2b, step2c, steps, step2, positions, classOf, isModifier, Draws}
 use Rattle.rules.specs.Examples.{Example, examples}
 use Rattle.rules.proofs.Settling.{insert, sort}
 use Rattle.rules.proofs.Every.{Every, every-then}
@@ -18,7 +18,7 @@ by-insertion : (e : Example) → e .order ≡ inserted e → Draws (e .classes) 
 by-insertion e is = record { canonical = _; step1 = canonical (classOf (e .classes)) (positions 0 (length (e .classes))); stacked = is }
 
 pub examples-hold : Every (λ e. Draws (e .classes) (e .flags) (e .order)) examples
-unfolding insert sort taken left toBeginning step2a step2b step2c steps step2 positions
+unfolding insert sort taken remaining toBeginning step2a step2b step2c steps step2 positions
 examples-hold =
     let computed : Every (λ e. e .order ≡ inserted e) examples = (refl, (refl, (refl, (refl, (refl, (refl, (refl, (refl, (refl, (refl, (refl, (refl, tt)))))))))))) in
     every-then (λ e. e .order ≡ inserted e) (λ e. Draws (e .classes) (e .flags) (e .order)) examples by-insertion computed

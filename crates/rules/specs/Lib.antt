@@ -1,4 +1,5 @@
--- What a reader must believe: section 3.12 of the Unicode Standard 3.0, as document 01 reads it, and the refusals.
+-- What a reader must believe: section 3.12 of the Unicode Standard 3.0, as document 01 reads it, the drawing order of marks
+-- by its section 3.10 and by source document 001, and the refusals.
 -- Where each rule stands:
 --   P1 to P3           Paragraph, each under its name
 --   X1 to X5, X7       Explicit, each under its name; X6 as X6level and X6type; X8 and X9 in levelHere and typeHere
@@ -8,8 +9,10 @@
 --   N1, N2             Neutral, each under its name
 --   I1, I2             Implicit, each under its name
 --   L1, L2             Line, each under its name
+--   R1 to R3           Canonical: R1 is its p, R2 and R3 under their names
+--   steps 2a to 2c     Stacking, each under its name; step 2 is for all stretches of a text
 -- Refusals has the eleven refusals and each job's order of checks, Jobs what each job answers and leaves in its buffer,
--- Table the eleven rows of document 01 that are proved.
+-- Table the eleven rows of document 01 that are proved, Examples the worked drawing orders.
 pub mod Choice
 pub mod Classes
 pub mod Paragraph
