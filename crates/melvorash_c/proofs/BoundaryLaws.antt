@@ -6,9 +6,11 @@ use Rattle.rules.specs.Jobs.{Answer, accepted, refused}
 use Rattle.refusals.specs.Page.{numberOf, placeOf}
 use Rattle.refusals.specs.declared.Refusal.{Refusal}
 use Rattle.refusals.specs.declared.Refusal.the-variants.{NoClasses, UnknownClass, TooLong, EarlySeparator, BadBase, ShortLevels, BadLevel, BadLine, ShortOrder, BadEnds, ShortBuffer}
+use Rattle.marks.specs.Answers.{marksPage, DrawsMarks}
+use Rattle.marks.specs.declared.MarksAnswer.{MarksAnswer}
 use Rattle.melvorash.specs.Answers.{orderPage, OrdersLine, OrdersLines}
 use Rattle.melvorash.specs.declared.answers.OrderAnswer.{OrderAnswer}
-use Rattle.melvorash_c.specs.Boundary.{numbersOf, readOff, Gives, FillsLine, FillsLines}
+use Rattle.melvorash_c.specs.Boundary.{numbersOf, readOff, Gives, FillsLine, FillsLines, FillsMarks}
 use Rattle.melvorash_c.specs.declared.answer.Answer as Exported
 
 -- no refusal has the number 0, so it is read off as what it is
@@ -50,4 +52,14 @@ fills-lines cs levels base ends order p g =
     record {
       fills = record { answer = gives-same g (p .leaves .answer); buffer = p .leaves .buffer };
       display = λ e. p .display _ (accepted-read g e);
+    }
+
+pub fills-marks : (cs flags before : List ℕ) {job : MarksAnswer} {r : Exported.Answer} {after : List ℕ} → DrawsMarks cs flags before job after → Gives (marksPage job) r → FillsMarks cs flags before r after
+fills-marks cs flags before p g =
+    record {
+      answer = gives-same g (p .answer);
+      drawn = p .drawn;
+      rules = p .rules;
+      buffer = p .buffer;
+      keeps = λ e. p .keeps _ (accepted-read g e);
     }

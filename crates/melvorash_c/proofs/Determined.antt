@@ -3,9 +3,12 @@
 use Prim.Native.Nat.{ℕ}
 use mathlib.Core.Path.{_≡_}
 use mathlib.Core.List.{List}
+use lib.ListN.{length}
+use Rattle.rules.specs.Refusals.{checksOfMarks}
 use Rattle.rules.specs.Jobs.{Answer}
 use Rattle.rules.proofs.Determined.{determined}
-use Rattle.melvorash_c.specs.Boundary.{Gives, Fills, FillsLine, FillsLines}
+use Rattle.marks.proofs.Determined.{order-determined}
+use Rattle.melvorash_c.specs.Boundary.{Gives, Fills, FillsLine, FillsLines, FillsMarks}
 use Rattle.melvorash_c.specs.declared.answer.Answer as Exported
 
 -- Cut and Base
@@ -22,3 +25,10 @@ line-determined cs levels base from to order p q = fills-determined (p .fills) (
 
 pub lines-determined : (cs levels : List ℕ) (base : ℕ) (ends order : List ℕ) {r s : Exported.Answer} {x y : List ℕ} → FillsLines cs levels base ends order r x → FillsLines cs levels base ends order s y → (r ≡ s) × (x ≡ y)
 lines-determined cs levels base ends order p q = fills-determined (p .fills) (q .fills)
+
+-- Marks
+pub marks-determined : (cs flags before : List ℕ) {r s : Exported.Answer} {x y : List ℕ} → FillsMarks cs flags before r x → FillsMarks cs flags before s y → (r ≡ s) × (x ≡ y)
+marks-determined cs flags before p q = (
+  gives-determined (p .answer) (q .answer),
+  order-determined cs flags before (checksOfMarks cs (length flags) (length before)) (p .rules) (q .rules) (p .buffer) (q .buffer),
+)

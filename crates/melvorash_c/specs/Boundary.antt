@@ -3,11 +3,14 @@ use Prim.Native.Nat.{ℕ}
 use mathlib.Core.Path.{_≡_}
 use mathlib.Core.List.{List}
 use lib.Dec.{eqb}
-use lib.ListN.{take}
+use lib.ListN.{length, take}
 use Rattle.rules.specs.Choice.{if_then_else_}
 use Rattle.rules.specs.Line.{lineLevels}
-use Rattle.rules.specs.Jobs.{Answer, accepted, refused, lineAnswer, lineBuffer, linesAnswer, linesBuffer}
+use Rattle.rules.specs.Refusals.{checksOfMarks}
+use Rattle.rules.specs.Jobs.{Answer, accepted, refused, whereSound, over, lineAnswer, lineBuffer, linesAnswer, linesBuffer, marksAnswer}
+use Rattle.rules.specs.Stacking.{Draws}
 use Rattle.pairwise.specs.Demand3.{Displayed, EachDisplayed}
+use Rattle.marks.specs.Keeps.{Keeps}
 use Rattle.melvorash_c.specs.declared.answer.Answer as Exported
 
 -- the three numbers of an answer: accepted has refusal 0 and place 0, refused has value 0
@@ -38,3 +41,11 @@ pub record FillsLine (cs levels : List ℕ) (base from to : ℕ) (order : List �
 pub record FillsLines (cs levels : List ℕ) (base : ℕ) (ends order : List ℕ) (r : Exported.Answer) (after : List ℕ) : Type 0 where
   pub fills : Fills (linesAnswer cs levels base ends order) (linesBuffer cs levels base ends order) r after
   pub display : r .refusal ≡ 0 → EachDisplayed base cs levels 0 ends (take (r .value) after)
+
+-- Marks: the order afterwards, every place of it; also, where it accepts, what the order keeps of the text
+pub record FillsMarks (cs flags before : List ℕ) (r : Exported.Answer) (after : List ℕ) : Type 0 where
+  pub answer : Gives (marksAnswer cs (length flags) (length before)) r
+  pub drawn : List ℕ
+  pub rules : Draws cs flags drawn
+  pub buffer : after ≡ whereSound (checksOfMarks cs (length flags) (length before)) (over drawn before) before
+  pub keeps : r .refusal ≡ 0 → Keeps cs (take (r .value) after)

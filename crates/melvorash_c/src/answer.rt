@@ -1,10 +1,12 @@
 // The answer that C and Rust read, and the way to it from each answer of the jobs.
+use marks::MarksAnswer;
 use melvorash::BaseAnswer;
 use melvorash::CutAnswer;
 use melvorash::OrderAnswer;
 use refusals::Refusal;
 ghost use Rattle.rules.specs.Jobs.{accepted, refused};
 ghost use Rattle.refusals.specs.Page.{numberOf, placeOf};
+ghost use Rattle.marks.specs.Answers.{marksPage};
 ghost use Rattle.melvorash.specs.Answers.{cutPage, basePage, orderPage};
 ghost use Rattle.melvorash_c.specs.Boundary.{Gives};
 
@@ -41,7 +43,7 @@ fn of_refusal(refusal: Refusal) -> Answer
     }
 }
 
-// Each job's answer: the paragraph's length, the base level, the count of positions placed.
+// Each job's answer: the paragraph's length, the base level, the count of positions placed, the count of characters drawn.
 pub(crate) fn of_cut(answer: CutAnswer) -> Answer
     ensures { λ r. ⌜ Gives (cutPage answer) r ⌝ }
 {
@@ -66,5 +68,14 @@ pub(crate) fn of_order(answer: OrderAnswer) -> Answer
     match answer {
         OrderAnswer::Ordered(placed) => of_value(placed.count),
         OrderAnswer::Refused(refusal) => of_refusal(refusal),
+    }
+}
+
+pub(crate) fn of_marks(answer: MarksAnswer) -> Answer
+    ensures { λ r. ⌜ Gives (marksPage answer) r ⌝ }
+{
+    match answer {
+        MarksAnswer::Drawn(count) => of_value(count),
+        MarksAnswer::Refused(refusal) => of_refusal(refusal),
     }
 }

@@ -1,4 +1,4 @@
-// The jobs for C and Rust. Each exported function is one job of `melvorash`: it asks nothing of its
+// The jobs for C and Rust. Each exported function is one job of `melvorash` or `marks`: it asks nothing of its
 // input, promises what the job promises, and hands the answer over in three numbers.
 // A slice is a pointer and a length there.
 mod answer;
@@ -6,9 +6,10 @@ mod answer;
 pub use answer::Answer;
 use answer::of_base;
 use answer::of_cut;
+use answer::of_marks;
 use answer::of_order;
 ghost use Rattle.rules.specs.Jobs.{cutAnswer, baseAnswer, levelsAnswer, explicitBuffer, resolveBuffer};
-ghost use Rattle.melvorash_c.specs.Boundary.{Gives, Fills, FillsLine, FillsLines};
+ghost use Rattle.melvorash_c.specs.Boundary.{Gives, Fills, FillsLine, FillsLines, FillsMarks};
 
 // The first paragraph's length.
 #[no_mangle]
@@ -75,4 +76,13 @@ pub extern "C" fn melvorash_order_lines(
 {
     let lines = melvorash::order_lines(classes, levels, base, ends, order);
     of_order(lines)
+}
+
+// The order in which the characters are drawn, and how many.
+#[no_mangle]
+pub extern "C" fn melvorash_marks(classes: &[u8], flags: &[u8], order: &mut [u16]) -> Answer
+    ensures { λ r. ⌜ FillsMarks (now (classes .entry)) (now (flags .entry)) (now (order .entry)) r (now (order .exit)) ⌝ }
+{
+    let drawing = marks::drawing_order(classes, flags, order);
+    of_marks(drawing)
 }

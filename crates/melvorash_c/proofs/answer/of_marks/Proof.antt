@@ -1,0 +1,37 @@
+-- `melvorash_c::answer::of_marks` meets its contract: each case of the answer by what it stands for on the page.
+-- Assumes nothing.
+use mathlib.Core.Path.{sym, ap}
+use Rattle.marks.specs.Answers.{marksPage}
+use Rattle.melvorash_c.proofs.BoundaryLaws.{gives-same}
+use borrow.Author.Needs.{needs}
+use Rattle.melvorash_c.proofs.answer.of_marks.Statement.{statement}
+use Rattle.melvorash_c.proofs.answer.of_marks.Tie as tie
+
+enum-known-answer : tie.Need-enum-known-answer
+enum-known-answer c = search needs
+
+of-value-requires : tie.Need-of-value-requires
+of-value-requires c κs = search needs
+
+enum-known-answer-2 : tie.Need-enum-known-answer-2
+enum-known-answer-2 c = search needs
+
+of-refusal-requires : tie.Need-of-refusal-requires
+of-refusal-requires c κs = search needs
+
+returns : tie.Need-returns
+returns c = gives-same (c .of-value .ensures) (ap marksPage (sym (c .before .before .answer .given .1)))
+
+returns-2 : tie.Need-returns-2
+returns-2 c = gives-same (c .of-refusal .ensures) (ap marksPage (sym (c .before .before .answer2 .given .1)))
+
+pub of-marks-spec : {M : Type 1} → statement M
+of-marks-spec =
+    tie.close
+    (tie.spec
+    enum-known-answer
+    of-value-requires
+    enum-known-answer-2
+    of-refusal-requires
+    returns
+    returns-2)
