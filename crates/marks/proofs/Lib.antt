@@ -1,6 +1,5 @@
--- Laws that the proofs of this crate cite.
+-- Laws that the proofs of this crate cite, and theorems on the drawing order: AlikeLaws and FlagLaws.
 pub mod KeepsLaws
-pub mod AlikeLaws
 pub mod StepLaws
 pub mod RankLaws
 pub mod TextLaws
@@ -9,3 +8,5 @@ pub mod JoinLaws
 pub mod DrawLaws
 pub mod JobLaws
 pub mod Determined
+pub mod AlikeLaws
+pub mod FlagLaws

@@ -15,4 +15,5 @@ pub mod Positions
 pub mod Ranking
 pub mod EquivalentLaws
 pub mod CanonicalLaws
+pub mod EndingLaws
 pub mod ExampleLaws
