@@ -22,8 +22,11 @@ typedef struct {
 
 extern const library melvorash, fribidi, icu;
 
-enum { WORKLOADS = 9, FIRST_GROWTH = 6 };
+enum { WORKLOADS = 9, FIRST_GROWTH = 6, MARKED = 5 };
 void make_workloads(workload *made);
+
+/* Texts for the drawing order: there the classes are combining classes. */
+void make_marked(workload *made);
 size_t positions_of(const workload *w);
 
 void *room(size_t count, size_t size);

@@ -120,6 +120,15 @@ static melvorash_answer refusal(const workload *w, uint8_t *levels)
     return melvorash_resolve(w->classes, positions_of(w), MELVORASH_BY_TEXT, levels, 0);
 }
 
+/* No flag is set. */
+static melvorash_answer marks(const workload *w, uint8_t *levels)
+{
+    static const uint8_t flags[MELVORASH_LONGEST];
+    static uint16_t order[MELVORASH_LONGEST];
+    (void)levels;
+    return melvorash_marks(w->classes, positions_of(w), flags, MELVORASH_LONGEST, order, MELVORASH_LONGEST);
+}
+
 static void measure_alone(const char *name, job *call, const workload *w)
 {
     static double times[REPEATS];
@@ -136,8 +145,9 @@ static void measure_alone(const char *name, job *call, const workload *w)
 
 int main(void)
 {
-    static workload made[WORKLOADS];
+    static workload made[WORKLOADS], marked[MARKED];
     make_workloads(made);
+    make_marked(marked);
     puts("| Levels and order | faster peer : melvorash | melvorash | fribidi | ICU |\n|---|---|---|---|---|");
     for (int i = 0; i < WORKLOADS; i++)
         measure(&made[i]);
@@ -146,5 +156,7 @@ int main(void)
         measure_alone("Explicit", explicit_levels, &made[i]);
     measure_alone("Cut", cut, &made[1]);
     measure_alone("a refusal", refusal, &made[1]);
+    for (int i = 0; i < MARKED; i++)
+        measure_alone("Marks", marks, &marked[i]);
     return 0;
 }

@@ -113,6 +113,40 @@ static workload ended_by_blanks(void)
     return w;
 }
 
+/* Letters, two in three with a vowel, of which some have a shadda before or behind it. */
+static workload vowelled(void)
+{
+    workload w = empty("vowelled words", 1, LONGEST);
+    for (size_t i = 0; i < LONGEST; i++) {
+        size_t kind = below(3);
+        if (kind == 0 || i + 3 > LONGEST)
+            continue;
+        size_t shadda = below(8);
+        w.classes[++i] = shadda == 0 ? 33 : (uint8_t)(27 + below(6));
+        if (shadda < 2)
+            w.classes[++i] = shadda == 0 ? (uint8_t)(27 + below(6)) : 33;
+    }
+    return w;
+}
+
+/* Stretches of marks in falling classes, a letter before each: every mark goes before all of its stretch. */
+static workload falling(const char *name, size_t stretch)
+{
+    workload w = empty(name, 1, LONGEST);
+    for (size_t i = 0; i < LONGEST; i++)
+        w.classes[i] = i % stretch == 0 ? 0 : (uint8_t)(255 - i % stretch * 255 / stretch);
+    return w;
+}
+
+void make_marked(workload *made)
+{
+    made[0] = all("letters", 0);
+    made[1] = vowelled();
+    made[2] = falling("falling, stretches of 16", 16);
+    made[3] = falling("falling, stretches of 256", 256);
+    made[4] = falling("falling, one stretch", LONGEST);
+}
+
 void make_workloads(workload *made)
 {
     made[0] = labels();
