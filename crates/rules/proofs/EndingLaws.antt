@@ -1,10 +1,10 @@
 -- R3 ends, whichever pairs R2 exchanges: the pairs of characters that stand in the wrong order become one fewer with each
 -- exchange. So all rows of exchanges up to the canonical ordering have one length, and none goes on beyond it.
 -- Assumes nothing.
-use Prim.Native.Nat.{ℕ, zero, suc, _+_, _≤_, _<_}
+use Prim.Native.Nat.{ℕ, suc, _+_, _<_}
 use native.Mathlib.Omega.{arith}
 use mathlib.Core.Bool.{Bool, true, false}
-use mathlib.Core.Path.{_≡_, refl, sym, ap, _∙_}
+use mathlib.Core.Path.{_≡_, sym, ap, _∙_}
 use mathlib.Core.List.{List, [], _∷_, _++_}
 use Rattle.rules.specs.Canonical.{R2, Repeated, none, more}
 use Rattle.rules.proofs.CanonicalLaws.{exchanges, exchanges-higher, exchanges-not}

@@ -2,7 +2,7 @@
 -- Assumes nothing.
 use Prim.Native.Nat.{ℕ}
 use mathlib.Core.Path.{_≡_, refl}
-use mathlib.Core.List.{List, [], _∷_}
+use mathlib.Core.List.{List, []}
 use lib.ListN.{length}
 use Rattle.rules.specs.Stacking.{taken, remaining, toBeginning, step2a, step2b, step2c, steps, step2, positions, classOf, isModifier, Draws}
 use Rattle.rules.specs.Examples.{Example, examples}
