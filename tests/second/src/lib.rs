@@ -4,9 +4,10 @@
 //!
 //! How it was kept independent: it was written from the chapter (source
 //! document 002) and from document 01 alone, before and without sight of the
-//! library's code and definitions; the marks likewise, from source documents
-//! 001 and 002 and ticket 14. It shares no code, no table and no definition
-//! with that library.
+//! library's code and definitions. The marks were written from source documents
+//! 001 and 002 and from what ticket 14 asks, in its own words and in a longer
+//! telling, without sight of the library's code and definitions too. It shares
+//! no code, no table and no definition with that library.
 //!
 //! How it is laid out: one function for each rule, named after the rule, with
 //! the rule restated above it. Everything is a plain loop over a `Vec`; speed
