@@ -8,13 +8,13 @@ use mathlib.Core.Bool.{true, false}
 use mathlib.Core.List.{List, [], _∷_, _++_}
 use lib.ListN.{length, getD, take, drop, set, length-map, take-append-drop}
 use lib.Seq.{drop-length, length-take-le}
-use Rattle.rules.specs.Choice.{if_then_else_}
+use Rattle.rules.specs.Choice.{if_then_else_, upFrom}
 use Rattle.rules.specs.Classes.{isRemoved}
 use Rattle.rules.specs.Jobs.{over}
 use Rattle.rules.specs.Line.{Item, items}
 use Rattle.rules.proofs.Any.{anyOf, none-first}
 use Rattle.rules.proofs.Lists.{drop-next}
-use Rattle.line.specs.Gathered.{Gathered, positions, levelsOf, upFrom}
+use Rattle.line.specs.Gathered.{Gathered, positions, levelsOf}
 use Rattle.rules.proofs.Filling.{Filled, filled-begun, filled-reads, filled-next, filled-ended, filled-from, filled-more, filled-all}
 
 -- the item at a place of the line

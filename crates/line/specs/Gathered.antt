@@ -1,7 +1,7 @@
 -- The items of a line laid out in two buffers: positions in the order, levels in the work buffer.
-use Prim.Native.Nat.{ℕ, zero, suc}
+use Prim.Native.Nat.{ℕ}
 use mathlib.Core.Path.{_≡_}
-use mathlib.Core.List.{List, [], _∷_, map}
+use mathlib.Core.List.{List, map}
 use lib.ListN.{length}
 use Rattle.rules.specs.Jobs.{over}
 use Rattle.rules.specs.Line.{Item, L1, items}
@@ -11,11 +11,6 @@ positions xs = map (λ (x : Item). x .position) xs
 
 abbrev pub levelsOf : List Item → List ℕ
 levelsOf xs = map (λ (x : Item). x .level) xs
-
--- so many positions in a row
-unfoldable pub upFrom : ℕ → ℕ → List ℕ
-upFrom from zero = []
-upFrom from (suc count) = from ∷ upFrom (suc from) count
 
 -- the items of a line that begins at a position, from its own classes and levels and the base: its reset, then what is kept
 abbrev pub lineItems : ℕ → ℕ → List ℕ → List ℕ → List Item

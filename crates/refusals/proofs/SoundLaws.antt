@@ -2,12 +2,13 @@
 use Prim.Native.Nat.{ℕ, _-_, _≤_, _<_}
 use native.Mathlib.Omega.{arith}
 use mathlib.Core.Path.{_≡_, refl}
-use mathlib.Core.Bool.{Bool, true, false, _||_, not}
+use mathlib.Core.Bool.{Bool, true, false, not}
 use mathlib.Core.List.{List, [], _∷_}
 use borrow.Author.Tests.{ltb-false, leb-false, not-false}
 use lib.Dec.{leb, ltb}
 use lib.ListN.{length}
 use Rattle.rules.specs.Refusals.{Check, sound, refuse, _andThen_, refuseWhere, isEmpty, checkSome, checkLength, firstFault, checkClasses, checkRequest, checkBase, checkLevelRoom, firstBadLevel, checkLine, checkOrderRoom, endsRiseTo, checkEnds, checksOfLevels, checksOfOrder, checksOfLine, checksOfLines, checkMarkRoom, checksOfMarks}
+use Rattle.rules.proofs.Any.{neither}
 
 pub never-sound : {number place : ℕ} → refuse number place ≡ sound → ⊥
 never-sound e = let z : _≡_ {A = ℕ} 0 1 = cc in omega arith
@@ -19,10 +20,6 @@ both-sound (refuse number place) b e = absurd (never-sound e)
 pub test-fails : (b : Bool) (number : ℕ) → refuseWhere b number ≡ sound → b ≡ false
 test-fails false number e = refl
 test-fails true number e = absurd (never-sound e)
-
-neither : (a b : Bool) → (a || b) ≡ false → (a ≡ false) × (b ≡ false)
-neither false b e = (refl, e)
-neither true b e = let z : _≡_ {A = ℕ} 0 1 = cc in absurd (omega arith)
 
 pub classes-length : (cs : List ℕ) → checkClasses cs ≡ sound → length cs ≤ 4096
 unfolding checkClasses checkLength

@@ -3,7 +3,7 @@
 use Prim.Native.Nat.{ℕ}
 use mathlib.Core.Path.{_≡_, refl}
 use mathlib.Core.List.{List, []}
-use lib.ListN.{length}
+use Rattle.rules.specs.Choice.{upFrom}
 use Rattle.rules.specs.Stacking.{taken, remaining, toBeginning, step2a, step2b, step2c, steps, step2, positions, classOf, isModifier, Draws}
 use Rattle.rules.specs.Examples.{Example, examples}
 use Rattle.rules.proofs.Settling.{insert, sort}
@@ -12,13 +12,13 @@ use Rattle.rules.proofs.CanonicalLaws.{exchanges, canonical}
 
 -- what the rules give for a text, by insertion
 abbrev inserted : Example → List ℕ
-inserted e = step2 (classOf (e .classes)) (isModifier (e .flags)) [] (sort (exchanges (classOf (e .classes))) (positions 0 (length (e .classes))))
+inserted e = step2 (classOf (e .classes)) (isModifier (e .flags)) [] (sort (exchanges (classOf (e .classes))) (positions (e .classes)))
 
 by-insertion : (e : Example) → e .order ≡ inserted e → Draws (e .classes) (e .flags) (e .order)
-by-insertion e is = record { canonical = _; step1 = canonical (classOf (e .classes)) (positions 0 (length (e .classes))); stacked = is }
+by-insertion e is = record { canonical = _; step1 = canonical (classOf (e .classes)) (positions (e .classes)); stacked = is }
 
 pub examples-hold : Every (λ e. Draws (e .classes) (e .flags) (e .order)) examples
-unfolding insert sort taken remaining toBeginning step2a step2b step2c steps step2 positions
+unfolding insert sort taken remaining toBeginning step2a step2b step2c steps step2 upFrom
 examples-hold =
     let computed : Every (λ e. e .order ≡ inserted e) examples = (refl, (refl, (refl, (refl, (refl, (refl, (refl, (refl, (refl, (refl, (refl, (refl, tt)))))))))))) in
     every-then (λ e. e .order ≡ inserted e) (λ e. Draws (e .classes) (e .flags) (e .order)) examples by-insertion computed

@@ -11,7 +11,7 @@ pub mod Settling
 pub mod Every
 pub mod Placing
 pub mod Sinking
-pub mod Positions
+pub mod Upward
 pub mod Ranking
 pub mod EquivalentLaws
 pub mod CanonicalLaws

@@ -1,5 +1,5 @@
 -- The few words on truth values, numbers and lists that the rules are written in.
-use Prim.Native.Nat.{ℕ, _%_}
+use Prim.Native.Nat.{ℕ, zero, suc, _%_}
 use mathlib.Core.Bool.{Bool, true, false}
 use mathlib.Core.List.{List, [], _∷_}
 use lib.Dec.{eqb}
@@ -16,3 +16,8 @@ isOdd n = eqb (n % 2) 1
 abbrev pub headOr : ℕ → List ℕ → ℕ
 headOr otherwise [] = otherwise
 headOr otherwise (x ∷ xs) = x
+
+-- so many numbers from one on: n, n + 1, n + 2 and so on
+unfoldable pub upFrom : ℕ → ℕ → List ℕ
+upFrom n zero = []
+upFrom n (suc count) = n ∷ upFrom (suc n) count
