@@ -2,7 +2,7 @@
 use Prim.Native.Nat.{ℕ}
 use mathlib.Core.Path.{_≡_}
 use mathlib.Core.List.{List}
-use Rattle.rules.proofs.Determined.{determined}
+use Rattle.laws.proofs.Determined.{determined}
 use Rattle.explicit.specs.Promises.{Gathered}
 
 pub gather-determined : {base : ℕ} {cs levels types ls ts ls′ ts′ : List ℕ} {n m : ℕ} → Gathered base cs levels types ls ts n → Gathered base cs levels types ls′ ts′ m → (n ≡ m) × (ls ≡ ls′) × (ts ≡ ts′)

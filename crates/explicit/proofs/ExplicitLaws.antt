@@ -8,7 +8,7 @@ use mathlib.Core.List.{List, [], _∷_, tail}
 use borrow.Author.Tests.{leb-true}
 use lib.Dec.{eqb, leb}
 use lib.ListN.{length, getD}
-use Rattle.rules.specs.Choice.{if_then_else_}
+use Rattle.laws.specs.Choice.{if_then_else_}
 use Rattle.rules.specs.Classes.{L, R, LRE, LRO, RLE, RLO, PDF, isRemoved, isParagraphEnd}
 use Rattle.rules.specs.Explicit.{State, Entry, valid, invalid, Verdict, opensValid, opensInvalid, closesValid, closesInvalid, closesNothing, plain, neutral, X1, leastGreaterOdd, leastGreaterEven, opening, closing, X2, X3, X4, X5, X7, verdict, after, step, X6level, levelHere, typeHere, explicitLevels, explicitTypes, kept}
 

@@ -10,11 +10,11 @@ use borrow.Author.Tests.{eqb-true, eq-eqb, ne-eqb, le-leb, lt-leb}
 use lib.Dec.{eqb}
 use lib.ListN.{getD, set, replicate, length-set}
 use lib.Seq.{getD-set-same, getD-set-other}
-use Rattle.rules.proofs.Lists.{le-or-lt}
+use Rattle.laws.proofs.Lists.{le-or-lt}
 use Rattle.rules.specs.Explicit.{State, Entry, valid, invalid, neutral, X1, after, opensValid, opensInvalid, closesValid, closesInvalid, closing, opening, plain, leastGreaterOdd, leastGreaterEven, X2, X3, X4, X5, X7, verdict, step}
-use Rattle.rules.proofs.Passes.{by-test}
+use Rattle.laws.proofs.Passes.{by-test}
 use Rattle.rules.specs.Classes.{LRE, LRO, PDF, RLE, RLO, isOpening}
-use Rattle.rules.specs.Choice.{if_then_else_, isOdd}
+use Rattle.laws.specs.Choice.{if_then_else_, isOdd}
 use Rattle.rules.specs.Explicit as rules
 use Rattle.explicit.specs.declared.machine.Machine.{Machine}
 use Rattle.explicit.specs.declared.machine.Verdict.{Verdict}

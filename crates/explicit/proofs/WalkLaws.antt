@@ -6,14 +6,14 @@ use mathlib.Core.Bool.{true, false, _||_}
 use mathlib.Core.List.{List, [], _∷_}
 use lib.Dec.{eqb}
 use lib.ListN.{length, getD, drop, set, drop-of-length-le}
-use Rattle.rules.proofs.Lists.{drop-next}
-use Rattle.rules.proofs.Any.{neither}
+use Rattle.laws.proofs.Lists.{drop-next}
+use Rattle.laws.proofs.Any.{neither}
 use Rattle.rules.specs.Classes.{LRE, LRO, RLE, RLO, PDF, BN, isOpening, isRemoved}
 use Rattle.rules.specs.Explicit.{State, verdict, after, step, kept}
 use Rattle.explicit.specs.declared.machine.Machine.{Machine}
 use Rattle.explicit.specs.Meaning.{Sound, counts, Stands}
 use Rattle.explicit.proofs.ExplicitLaws.{kept-none, kept-removed, kept-kept}
-use Rattle.rules.proofs.Filling.{Filled, filled-from, filled-more}
+use Rattle.laws.proofs.Filling.{Filled, filled-from, filled-more}
 
 -- the machine after i positions
 pub record Walk (cs : List ℕ) (m : Machine) (i : ℕ) : Type 0 where

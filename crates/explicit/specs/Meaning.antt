@@ -6,7 +6,7 @@ use mathlib.Core.List.{List, [], _∷_, _++_}
 use lib.Dec.{eqb}
 use lib.ListN.{length, getD, replicate}
 use mathlib.Core.Bool.{_||_}
-use Rattle.rules.specs.Choice.{if_then_else_}
+use Rattle.laws.specs.Choice.{if_then_else_}
 use Rattle.rules.specs.Classes.{L, R, LRO, RLE, RLO}
 use Rattle.rules.specs.Explicit.{State, Entry, valid, invalid, highestExplicit, neutral, leastGreaterOdd, leastGreaterEven, opensValid, opensInvalid, closesValid, closesInvalid, closesNothing, plain}
 use Rattle.rules.specs.Explicit as rules

@@ -4,7 +4,7 @@ use mathlib.Core.Path.{_≡_}
 use mathlib.Core.List.{List}
 use lib.ListN.{length}
 use Rattle.rules.specs.Explicit.{X1, explicitLevels, explicitTypes, kept}
-use Rattle.rules.specs.Jobs.{over}
+use Rattle.laws.specs.Parts.{over}
 
 -- the levels and types of the kept positions stand packed at the front of two buffers, the rest of which is as it was
 pub record Gathered (base : ℕ) (cs levels₀ types₀ levels₁ types₁ : List ℕ) (n : ℕ) : Type 0 where

@@ -4,7 +4,7 @@ ghost use mathlib.Core.Path.{_≡_};
 ghost use Prim.Native.Nat.{_≤_};
 ghost use lib.ListN.{length};
 ghost use Rattle.rules.specs.Explicit.{X1, explicitLevels};
-ghost use Rattle.rules.specs.Jobs.{over};
+ghost use Rattle.laws.specs.Parts.{over};
 ghost use Rattle.explicit.specs.Promises.{Gathered};
 
 mod machine;

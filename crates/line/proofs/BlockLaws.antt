@@ -10,7 +10,7 @@ use lib.ListN.{length, drop, take-append-drop}
 use borrow.Author.Tests.{le-leb, lt-ltb}
 use borrow.Rule.Slice.PartMut.{midOf, mid-len, post-is}
 use Rattle.rules.specs.Line.{highest}
-use Rattle.rules.proofs.Passes.{span}
+use Rattle.laws.specs.Stretches.{span}
 use Rattle.line.specs.Passes.{atLevels, lowest, below, Skipped}
 
 -- each element of a part passes the test: so many come first, then those of whatever follows

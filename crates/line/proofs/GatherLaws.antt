@@ -8,14 +8,15 @@ use mathlib.Core.Bool.{true, false}
 use mathlib.Core.List.{List, [], _∷_, _++_}
 use lib.ListN.{length, getD, take, drop, set, length-map, take-append-drop}
 use lib.Seq.{drop-length, length-take-le}
-use Rattle.rules.specs.Choice.{if_then_else_, upFrom}
+use Rattle.laws.specs.Choice.{if_then_else_, upFrom}
 use Rattle.rules.specs.Classes.{isRemoved}
-use Rattle.rules.specs.Jobs.{over}
+use Rattle.laws.specs.Parts.{over}
 use Rattle.rules.specs.Line.{Item, items}
-use Rattle.rules.proofs.Any.{anyOf, none-first}
-use Rattle.rules.proofs.Lists.{drop-next}
+use Rattle.laws.specs.Any.{anyOf}
+use Rattle.laws.proofs.Any.{none-first}
+use Rattle.laws.proofs.Lists.{drop-next}
 use Rattle.line.specs.Gathered.{Gathered, positions, levelsOf}
-use Rattle.rules.proofs.Filling.{Filled, filled-begun, filled-reads, filled-next, filled-ended, filled-from, filled-more, filled-all}
+use Rattle.laws.proofs.Filling.{Filled, filled-begun, filled-reads, filled-next, filled-ended, filled-from, filled-more, filled-all}
 
 -- the item at a place of the line
 abbrev pub itemAt : ℕ → List ℕ → ℕ → Item

@@ -10,9 +10,9 @@ use mathlib.Core.List.{List, [], _∷_, _++_, map, append-assoc}
 use lib.Dec.{leb}
 use lib.ListN.{length}
 use borrow.Author.Tests.{leb-true, le-leb, lt-leb, eqb-false}
-use Rattle.rules.specs.Choice.{if_then_else_, isOdd}
+use Rattle.laws.specs.Choice.{if_then_else_, isOdd}
 use Rattle.rules.specs.Line.{Item, L2, pass, passes, highest, lowestOdd}
-use Rattle.rules.proofs.Lists.{le-or-lt}
+use Rattle.laws.proofs.Lists.{le-or-lt}
 use Rattle.line.specs.Gathered.{positions, levelsOf}
 use Rattle.line.specs.Passes.{atLevels, passBy, passesBy}
 use Rattle.line.proofs.ScanLaws.{low-min}

@@ -11,16 +11,16 @@ use lib.ListN.{length, getD, take, drop, length-append, length-drop, length-map,
 use lib.Seq.{take-at, drop-at, drop-drop, length-take-le, take-all, drop-length}
 use borrow.Rule.Slice.PartMut.{putMid, post-is}
 use borrow.Author.Tests.{ltb-true, eqb-true}
-use Rattle.rules.specs.Choice.{if_then_else_}
+use Rattle.laws.specs.Choice.{if_then_else_}
 use Rattle.rules.specs.Classes.{isRemoved}
-use Rattle.rules.specs.Jobs.{over}
-use Rattle.rules.specs.Line.{Item, L1, L2, items, pass, passes, highest, lowestOdd, part, lineLevels, lineOrder, allOrders}
+use Rattle.laws.specs.Parts.{over, part}
+use Rattle.rules.specs.Line.{Item, L1, L2, items, pass, passes, highest, lowestOdd, lineLevels, lineOrder, allOrders}
 use Rattle.rules.specs.Refusals.{endsRiseTo}
-use Rattle.rules.proofs.Lists.{drop-next}
+use Rattle.laws.proofs.Lists.{drop-next}
 use Rattle.line.specs.Gathered.{Gathered, positions, levelsOf, lineItems}
 use Rattle.line.specs.Ordered.{Ordered}
 use Rattle.line.specs.Passes.{atLevels, passesBy}
-use Rattle.rules.proofs.Filling.{Filled, filled-begun, filled-part, filled-ended}
+use Rattle.laws.proofs.Filling.{Filled, filled-begun, filled-part, filled-ended}
 use Rattle.line.proofs.ItemLaws.{passes-positions, highest-levels, lowestOdd-levels, L2-of-bytes}
 use Rattle.line.proofs.ResetLaws.{length-L1}
 

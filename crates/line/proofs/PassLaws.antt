@@ -11,11 +11,12 @@ use lib.Dec.{leb, ltb}
 use borrow.Author.Tests.{le-leb, lt-leb, ltb-true, ltb-false}
 use lib.ListN.{length, getD, take, drop, length-append, length-drop, length-reverse, drop-of-length-le, take-append-drop, List·getD-append}
 use lib.Seq.{drop-drop, getD-drop, getD-take, getD-append-add, length-take-le, ext-getD}
-use Rattle.rules.specs.Choice.{if_then_else_}
-use Rattle.rules.proofs.Lists.{le-or-lt, drop-next}
-use Rattle.rules.proofs.Passes.{span, span-end}
+use Rattle.laws.specs.Choice.{if_then_else_}
+use Rattle.laws.proofs.Lists.{le-or-lt, drop-next}
+use Rattle.laws.specs.Stretches.{span}
+use Rattle.laws.proofs.Passes.{span-end}
 use Rattle.line.specs.Passes.{below, passBy, passesBy, Turned}
-use Rattle.rules.proofs.Filling.{Filled, filled-stays, filled-part}
+use Rattle.laws.proofs.Filling.{Filled, filled-stays, filled-part}
 
 -- a list reversed, by index
 past-reversed : (l r : List ℕ) (k : ℕ) → getD (reverseAux l r) (length l + k) 0 ≡ getD r k 0

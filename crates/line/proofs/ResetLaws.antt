@@ -7,11 +7,11 @@ use mathlib.Core.Bool.{Bool, true, _||_}
 use mathlib.Core.List.{List, [], _∷_, _++_}
 use lib.ListN.{length, getD, drop, set, length-set}
 use lib.Seq.{drop-cons, drop-length}
-use Rattle.rules.specs.Choice.{if_then_else_}
+use Rattle.laws.specs.Choice.{if_then_else_}
 use Rattle.rules.specs.Classes.{isRemoved, isSeparator, isBlank}
-use Rattle.rules.specs.Jobs.{over}
+use Rattle.laws.specs.Parts.{over}
 use Rattle.rules.specs.Line.{L1, blankAhead}
-use Rattle.rules.proofs.Lists.{drop-set-here}
+use Rattle.laws.proofs.Lists.{drop-set-here}
 use Rattle.line.specs.Tails.{levelAt}
 
 abbrev pub aheadOf : ℕ → Bool → Bool

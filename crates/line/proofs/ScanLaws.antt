@@ -7,9 +7,9 @@ use mathlib.Core.Bool.{Bool, true, false}
 use mathlib.Core.List.{List, [], _∷_}
 use lib.ListN.{length, getD, drop, drop-of-length-le}
 use borrow.Author.Tests.{eqb-true, eqb-false}
-use Rattle.rules.specs.Choice.{if_then_else_, isOdd}
+use Rattle.laws.specs.Choice.{if_then_else_, isOdd}
 use Rattle.rules.specs.Line.{Item, highest, lowestOdd}
-use Rattle.rules.proofs.Lists.{drop-next}
+use Rattle.laws.proofs.Lists.{drop-next}
 use Rattle.line.specs.Passes.{atLevels, lowest}
 
 -- one more element is taken into a total, which stays what it is of the whole

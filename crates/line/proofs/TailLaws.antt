@@ -9,13 +9,14 @@ use mathlib.Core.Bool.{Bool, true, false, _&&_}
 use mathlib.Core.List.{List, [], _∷_, _++_}
 use lib.ListN.{length, getD, take, drop, set, length-append, length-take, length-drop, drop-of-length-le}
 use lib.Seq.{take-at, drop-at, take-all, drop-drop, length-take-le}
-use Rattle.rules.specs.Choice.{if_then_else_}
+use Rattle.laws.specs.Choice.{if_then_else_}
 use Rattle.rules.specs.Classes.{isRemoved, isSeparator, isBlank}
-use Rattle.rules.specs.Jobs.{over}
+use Rattle.laws.specs.Parts.{over}
 use Rattle.rules.specs.Line.{L1, blankAhead}
-use Rattle.rules.proofs.Any.{anyOf, none-first, neither}
-use Rattle.rules.proofs.Lists.{drop-next, le-or-lt}
-use Rattle.rules.proofs.Filling.{Filled, filled-next, filled-more, filled-all}
+use Rattle.laws.specs.Any.{anyOf}
+use Rattle.laws.proofs.Any.{none-first, neither}
+use Rattle.laws.proofs.Lists.{drop-next, le-or-lt}
+use Rattle.laws.proofs.Filling.{Filled, filled-next, filled-more, filled-all}
 use Rattle.line.specs.Tails.{inTail, Tail, Rest, levelAt, tailLevels}
 use Rattle.line.proofs.ResetLaws.{length-L1}
 

@@ -7,7 +7,7 @@ use mathlib.Core.Logic.{_⊎_, inl, inr}
 use mathlib.Core.List.{List}
 use lib.ListN.{length, getD, set, length-set}
 use lib.Seq.{getD-set-same, getD-set-other, lt-length-set}
-use Rattle.rules.proofs.Lists.{le-or-lt}
+use Rattle.laws.proofs.Lists.{le-or-lt}
 use Rattle.line.specs.Passes.{Turned}
 
 -- two elements change places

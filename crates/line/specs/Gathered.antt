@@ -3,7 +3,7 @@ use Prim.Native.Nat.{ℕ}
 use mathlib.Core.Path.{_≡_}
 use mathlib.Core.List.{List, map}
 use lib.ListN.{length}
-use Rattle.rules.specs.Jobs.{over}
+use Rattle.laws.specs.Parts.{over}
 use Rattle.rules.specs.Line.{Item, L1, items}
 
 abbrev pub positions : List Item → List ℕ

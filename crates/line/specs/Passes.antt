@@ -5,9 +5,9 @@ use mathlib.Core.Bool.{Bool}
 use mathlib.Core.List.{List, [], _∷_, _++_, map}
 use lib.Dec.{leb, ltb}
 use lib.ListN.{length, getD, drop}
-use Rattle.rules.specs.Choice.{if_then_else_}
+use Rattle.laws.specs.Choice.{if_then_else_}
 use Rattle.rules.specs.Line.{Item}
-use Rattle.rules.proofs.Passes.{span}
+use Rattle.laws.specs.Stretches.{span}
 
 -- items at the given levels, whatever their positions
 abbrev pub atLevels : List ℕ → List Item

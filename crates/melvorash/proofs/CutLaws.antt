@@ -8,12 +8,12 @@ use mathlib.Core.Path.{_≡_, refl, ap, ap₂, _∙_}
 use mathlib.Core.Bool.{Bool, true, false}
 use mathlib.Core.List.{List, [], _∷_}
 use lib.ListN.{length, getD, take, drop, drop-of-length-le}
-use Rattle.rules.specs.Choice.{if_then_else_}
+use Rattle.laws.specs.Choice.{if_then_else_}
 use Rattle.rules.specs.Classes.{isUnknown, isParagraphEnd}
 use Rattle.rules.specs.Paragraph.{P1}
 use Rattle.rules.specs.Refusals.{Check, sound, refuse, checkSome, walk, checksOfCut}
 use Rattle.rules.specs.Jobs.{accepted, refused, answered, cutAnswer, cutPart}
-use Rattle.rules.proofs.Lists.{drop-next}
+use Rattle.laws.proofs.Lists.{drop-next}
 use Rattle.melvorash.specs.Answers.{partLength}
 
 -- ---- the definitions' equations

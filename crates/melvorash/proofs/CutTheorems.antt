@@ -6,7 +6,7 @@ use mathlib.Core.Path.{_≡_, refl, ap, ap₂}
 use mathlib.Core.Bool.{Bool, true, false}
 use mathlib.Core.List.{List, [], _∷_, _++_}
 use lib.ListN.{length}
-use Rattle.rules.specs.Choice.{if_then_else_}
+use Rattle.laws.specs.Choice.{if_then_else_}
 use Rattle.rules.specs.Classes.{B, isUnknown, isParagraphEnd}
 use Rattle.rules.specs.Paragraph.{P1}
 use Rattle.rules.specs.Refusals.{Check, sound, refuse, isEmpty, checkSome, walk, checksOfCut}

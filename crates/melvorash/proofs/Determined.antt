@@ -4,7 +4,7 @@ use Prim.Native.Nat.{ℕ}
 use mathlib.Core.Path.{_≡_, refl, sym, ap, _∙_}
 use mathlib.Core.List.{List}
 use Rattle.rules.specs.Jobs.{Answer, accepted, refused, cutAnswer, cutPart, baseAnswer, levelsAnswer, explicitBuffer, resolveBuffer}
-use Rattle.rules.proofs.Determined.{determined}
+use Rattle.laws.proofs.Determined.{determined}
 use Rattle.refusals.proofs.PageLaws.{refusalWith, refusal-told}
 use Rattle.melvorash.specs.Answers.{cutPage, basePage, orderPage, Answers, Leaves, OrdersLine, OrdersLines}
 use Rattle.melvorash.specs.declared.answers.CutAnswer.{CutAnswer}

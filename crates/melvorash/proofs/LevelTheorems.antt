@@ -8,14 +8,15 @@ use mathlib.Core.List.{List, [], _∷_, _++_}
 use borrow.Author.Tests.{le-ltb, ltb-false}
 use lib.Dec.{leb, ltb}
 use lib.ListN.{length, drop, length-append, length-drop}
-use Rattle.rules.specs.Choice.{if_then_else_}
+use Rattle.laws.specs.Choice.{if_then_else_}
 use Rattle.rules.specs.Classes.{isRemoved}
 use Rattle.rules.specs.Paragraph.{baseOf}
 use Rattle.rules.specs.Explicit.{X1, explicitLevels, kept}
 use Rattle.rules.specs.Resolve.{resolvedLevels}
 use Rattle.rules.specs.Refusals.{sound, refuse, _andThen_, refuseWhere, checkBase, checkLevelRoom, isBadLevel, firstBadLevel, isEmpty, endsRiseTo, checkLine, checkEnds, checkOrderRoom, checksOfLevels, checksOfOrder, checksOfLine, checksOfLines}
-use Rattle.rules.specs.Jobs.{accepted, refused, answered, over, levelsAnswer, explicitBuffer, resolveBuffer, lineAnswer, linesAnswer}
-use Rattle.rules.proofs.Passes.{by-test}
+use Rattle.laws.specs.Parts.{over}
+use Rattle.rules.specs.Jobs.{accepted, refused, answered, levelsAnswer, explicitBuffer, resolveBuffer, lineAnswer, linesAnswer}
+use Rattle.laws.proofs.Passes.{by-test}
 use Rattle.refusals.proofs.SoundLaws.{never-sound, levels-sound}
 use Rattle.paragraph.proofs.BaseLaws.{baseOf-small}
 use Rattle.explicit.proofs.ExplicitLaws.{length-levels, explicit-at-most-61}

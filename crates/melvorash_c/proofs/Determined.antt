@@ -6,7 +6,7 @@ use mathlib.Core.List.{List}
 use lib.ListN.{length}
 use Rattle.rules.specs.Refusals.{checksOfMarks}
 use Rattle.rules.specs.Jobs.{Answer}
-use Rattle.rules.proofs.Determined.{determined}
+use Rattle.laws.proofs.Determined.{determined}
 use Rattle.marks.proofs.Determined.{order-determined}
 use Rattle.melvorash_c.specs.Boundary.{Gives, Fills, FillsLine, FillsLines, FillsMarks}
 use Rattle.melvorash_c.specs.declared.answer.Answer as Exported

@@ -4,10 +4,11 @@ use mathlib.Core.Path.{_≡_}
 use mathlib.Core.List.{List}
 use lib.Dec.{eqb}
 use lib.ListN.{length, take}
-use Rattle.rules.specs.Choice.{if_then_else_}
+use Rattle.laws.specs.Choice.{if_then_else_}
 use Rattle.rules.specs.Line.{lineLevels}
 use Rattle.rules.specs.Refusals.{checksOfMarks}
-use Rattle.rules.specs.Jobs.{Answer, accepted, refused, whereSound, over, lineAnswer, lineBuffer, linesAnswer, linesBuffer, marksAnswer}
+use Rattle.laws.specs.Parts.{over}
+use Rattle.rules.specs.Jobs.{Answer, accepted, refused, whereSound, lineAnswer, lineBuffer, linesAnswer, linesBuffer, marksAnswer}
 use Rattle.rules.specs.Stacking.{Draws}
 use Rattle.pairwise.specs.Demand3.{Displayed, EachDisplayed}
 use Rattle.marks.specs.Keeps.{Keeps}

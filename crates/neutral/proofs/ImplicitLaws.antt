@@ -9,11 +9,11 @@ use mathlib.Core.List.{List, map}
 use borrow.Author.Tests.{eqb-true, eqb-false}
 use lib.Dec.{eqb}
 use lib.ListN.{length, length-map}
-use Rattle.rules.specs.Choice.{if_then_else_, isOdd}
+use Rattle.laws.specs.Choice.{if_then_else_, isOdd}
 use Rattle.rules.specs.Classes.{L, R, EN, AN}
 use Rattle.rules.specs.Implicit.{I1, I2, implicitLevel}
-use Rattle.rules.proofs.Lists.{le-or-lt}
-use Rattle.rules.proofs.Passes.{by-test}
+use Rattle.laws.proofs.Lists.{le-or-lt}
+use Rattle.laws.proofs.Passes.{by-test}
 
 -- a choice is bounded where both of its sides are
 choice-within : (b : Bool) (x y most : ℕ) → x ≤ most → y ≤ most → (if b then x else y) ≤ most

@@ -8,9 +8,9 @@ use borrow.Author.Tests.{eq-eqb, ne-eqb, eqb-true, eqb-false}
 use lib.Dec.{eqb}
 use lib.ListN.{length}
 use Rattle.rules.specs.Classes.{ON, isNeutral, isParagraphEnd}
-use Rattle.rules.specs.Weak.{stretches}
+use Rattle.laws.specs.Stretches.{stretches}
 use Rattle.rules.specs.Neutral.{direction, levelDirection, changeN1, N1, changeN2, N2}
-use Rattle.rules.proofs.Passes.{by-test, map-stretches, length-stretches}
+use Rattle.laws.proofs.Passes.{by-test, map-stretches, length-stretches}
 
 pub N2-neutral : (level t : ℕ) → isNeutral t ≡ true → changeN2 level t ≡ levelDirection level
 unfolding changeN2

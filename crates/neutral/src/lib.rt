@@ -5,11 +5,11 @@ ghost use Prim.Native.Nat.{_+_, _≤_};
 ghost use mathlib.Core.Bool.{_||_};
 ghost use lib.Dec.{eqb};
 ghost use lib.ListN.{length, drop};
-ghost use Rattle.rules.specs.Choice.{if_then_else_, isOdd};
+ghost use Rattle.laws.specs.Choice.{if_then_else_, isOdd};
 ghost use Rattle.rules.specs.Classes.{isNeutral, EN, AN, ON};
 ghost use Rattle.rules.specs.Neutral.{direction, levelDirection, changeN1, changeN2, N1, N2};
 ghost use Rattle.rules.specs.Implicit.{I1, I2, implicitLevel};
-ghost use Rattle.rules.proofs.Passes.{span};
+ghost use Rattle.laws.specs.Stretches.{span};
 
 fn is_number(t: u8) -> bool
     ensures { λ r. ⌜ r ≡ (eqb t EN || eqb t AN) ⌝ }

@@ -8,7 +8,7 @@ use mathlib.Core.Path.{_≡_, ap, _∙_}
 use mathlib.Core.List.{List, [], _∷_, _++_, reverseAux}
 use lib.Dec.{eqb, leb, ltb}
 use Rattle.rules.specs.Line.{Item, pass, passes}
-use Rattle.rules.proofs.Passes.{by-test}
+use Rattle.laws.proofs.Passes.{by-test}
 use Rattle.pairwise.proofs.PassLaws.{by-order, pass-nil, pass-high, pass-low, passes-none, passes-end, passes-first}
 
 abbrev pub one : Bool → ℕ

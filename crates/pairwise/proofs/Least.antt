@@ -7,9 +7,9 @@ use mathlib.Core.Path.{_≡_, refl, ap}
 use mathlib.Core.List.{List, [], _∷_, map}
 use lib.Dec.{ltb}
 use borrow.Author.Tests.{ltb-false, le-ltb, eq-eqb, eqb-true, eqb-false}
-use Rattle.rules.specs.Choice.{isOdd}
+use Rattle.laws.specs.Choice.{isOdd}
 use Rattle.rules.specs.Line.{Item, highest, lowestOdd}
-use Rattle.rules.proofs.Passes.{by-test}
+use Rattle.laws.proofs.Passes.{by-test}
 use Rattle.pairwise.specs.Demand3.{least}
 use Rattle.pairwise.proofs.PassLaws.{by-order}
 use Rattle.pairwise.proofs.Count.{one, count, isBelow, isOf}

@@ -11,8 +11,9 @@ use lib.Seq.{length-take-le}
 use borrow.Author.Tests.{eq-eqb, eqb-true, ne-eqb}
 use Rattle.rules.specs.Classes.{isRemoved}
 use Rattle.rules.specs.Explicit.{kept}
-use Rattle.rules.specs.Line.{Item, items, part}
-use Rattle.rules.proofs.Passes.{by-test}
+use Rattle.laws.specs.Parts.{part}
+use Rattle.rules.specs.Line.{Item, items}
+use Rattle.laws.proofs.Passes.{by-test}
 use Rattle.pairwise.proofs.Count.{one, count, standsAt}
 use Rattle.pairwise.proofs.Least.{levels}
 use Rattle.pairwise.proofs.Pairs.{from-to}

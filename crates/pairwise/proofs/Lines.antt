@@ -10,7 +10,7 @@ use lib.ListN.{length}
 use lib.Seq.{take-append-seam, drop-append-seam}
 use Rattle.rules.specs.Line.{lineOrder, allOrders}
 use Rattle.rules.specs.Refusals.{endsRiseTo}
-use Rattle.rules.proofs.Passes.{by-test}
+use Rattle.laws.proofs.Passes.{by-test}
 use Rattle.pairwise.specs.Demand3.{EachDisplayed}
 use Rattle.pairwise.proofs.Theorem.{demand3}
 

@@ -10,9 +10,9 @@ use mathlib.Core.Logic.{_⊎_, inl, inr}
 use mathlib.Core.List.{List, [], _∷_, _++_, reverse, append-assoc}
 use lib.Dec.{ltb}
 use borrow.Author.Tests.{ltb-true, eq-eqb, eqb-true, eqb-false}
-use Rattle.rules.specs.Choice.{isOdd}
+use Rattle.laws.specs.Choice.{isOdd}
 use Rattle.rules.specs.Line.{Item, passes, highest, lowestOdd, L2}
-use Rattle.rules.proofs.Passes.{by-test}
+use Rattle.laws.proofs.Passes.{by-test}
 use Rattle.pairwise.specs.Demand3.{least}
 use Rattle.pairwise.proofs.PassLaws.{by-order}
 use Rattle.pairwise.proofs.Count.{one, count, standsAt, isBelow, isOf, count-append, count-passes}

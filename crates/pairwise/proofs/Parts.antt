@@ -6,7 +6,7 @@ use mathlib.Core.Path.{_≡_, sym, ap, _∙_}
 use mathlib.Core.List.{List, [], _∷_, _++_}
 use lib.ListN.{length, getD, take, drop, length-drop, take-append-drop}
 use lib.Seq.{drop-cons, take-suc, take-nil, take-take, drop-drop, getD-take, getD-drop, length-take-le}
-use Rattle.rules.specs.Line.{part}
+use Rattle.laws.specs.Parts.{part}
 
 pub length-part : (from to : ℕ) (xs : List ℕ) → from ≤ to → to ≤ length xs → length (part from to xs) ≡ to - from
 unfolding part

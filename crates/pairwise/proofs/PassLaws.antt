@@ -8,7 +8,7 @@ use mathlib.Core.List.{List, [], _∷_, _++_}
 use lib.Dec.{leb}
 use borrow.Author.Tests.{le-leb, lt-leb}
 use Rattle.rules.specs.Line.{Item, pass, passes}
-use Rattle.rules.proofs.Lists.{le-or-lt}
+use Rattle.laws.proofs.Lists.{le-or-lt}
 
 -- a case split on the order of two numbers
 pub by-order : {A : Type 0} (a b : ℕ) → (a ≤ b → A) → (b < a → A) → A

@@ -8,7 +8,7 @@ use lib.ListN.{length, getD, length-append, List·getD-append}
 use lib.Seq.{getD-append-add}
 use borrow.Author.Tests.{eq-eqb, eqb-true}
 use Rattle.rules.specs.Line.{Item}
-use Rattle.rules.proofs.Passes.{by-test}
+use Rattle.laws.proofs.Passes.{by-test}
 use Rattle.pairwise.proofs.Count.{one, count, standsAt}
 use Rattle.pairwise.proofs.Sides.{Left}
 

@@ -7,7 +7,7 @@ use mathlib.Core.Bool.{false}
 use mathlib.Core.Logic.{_↔_}
 use mathlib.Core.List.{List, [], _∷_}
 use lib.ListN.{length, getD}
-use Rattle.rules.specs.Choice.{isOdd}
+use Rattle.laws.specs.Choice.{isOdd}
 use Rattle.rules.specs.Line.{lineLevels, lineOrder}
 use Rattle.pairwise.specs.Demand3.{OnLine, leastBetween, Displayed}
 use Rattle.pairwise.proofs.PassLaws.{by-order}

@@ -10,7 +10,7 @@ use mathlib.Core.List.{List, [], _∷_, _++_, reverseAux, reverse, append-nil, a
 use lib.Dec.{leb, ltb}
 use borrow.Author.Tests.{le-leb, lt-leb, ltb-true, ltb-false}
 use Rattle.rules.specs.Line.{Item, pass, passes}
-use Rattle.rules.proofs.Passes.{by-test}
+use Rattle.laws.proofs.Passes.{by-test}
 use Rattle.pairwise.proofs.PassLaws.{by-order, pass-nil, pass-high, pass-low, passes-none, passes-end, passes-first}
 use Rattle.pairwise.proofs.Count.{one, count, isBelow, count-passes}
 

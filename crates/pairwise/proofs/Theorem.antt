@@ -8,11 +8,12 @@ use mathlib.Core.Path.{_≡_, refl, sym, ap, subst₂, _∙_}
 use mathlib.Core.Logic.{_↔_}
 use mathlib.Core.List.{List, [], _∷_}
 use lib.ListN.{length, getD}
-use Rattle.rules.specs.Choice.{isOdd}
+use Rattle.laws.specs.Choice.{isOdd}
 use Rattle.rules.specs.Classes.{isRemoved}
 use Rattle.rules.specs.Explicit.{kept}
-use Rattle.rules.specs.Line.{Item, L1, items, L2, part, lineLevels, lineOrder}
-use Rattle.rules.proofs.Passes.{by-test}
+use Rattle.laws.specs.Parts.{part}
+use Rattle.rules.specs.Line.{Item, L1, items, L2, lineLevels, lineOrder}
+use Rattle.laws.proofs.Passes.{by-test}
 use Rattle.pairwise.specs.Demand3.{least, OnLine, leastBetween, Displayed}
 use Rattle.pairwise.proofs.Count.{count, standsAt}
 use Rattle.pairwise.proofs.Sides.{Left}

@@ -7,10 +7,11 @@ use mathlib.Core.Logic.{_↔_}
 use mathlib.Core.Bool.{false}
 use mathlib.Core.List.{List, [], _∷_}
 use lib.ListN.{length, getD, take, drop}
-use Rattle.rules.specs.Choice.{isOdd}
+use Rattle.laws.specs.Choice.{isOdd}
 use Rattle.rules.specs.Classes.{isRemoved}
 use Rattle.rules.specs.Explicit.{kept}
-use Rattle.rules.specs.Line.{part, lineLevels}
+use Rattle.laws.specs.Parts.{part}
+use Rattle.rules.specs.Line.{lineLevels}
 
 -- the smallest of a list that is not empty, and 0 where there is none
 unfoldable pub least : List ℕ → ℕ

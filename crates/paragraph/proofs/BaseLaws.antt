@@ -9,10 +9,10 @@ use mathlib.Core.List.{List, _∷_}
 use lib.Dec.{eqb}
 use lib.ListN.{length, getD, drop, drop-of-length-le}
 use borrow.Author.Tests.{eqb-false}
-use Rattle.rules.specs.Choice.{if_then_else_}
+use Rattle.laws.specs.Choice.{if_then_else_}
 use Rattle.rules.specs.Classes.{R, AL, isStrong}
 use Rattle.rules.specs.Paragraph.{P2, P3, baseByText, baseOf}
-use Rattle.rules.proofs.Lists.{drop-next}
+use Rattle.laws.proofs.Lists.{drop-next}
 
 search-step : (c : ℕ) (cs : List ℕ) → P2 (c ∷ cs) ≡ (if isStrong c then some c else P2 cs)
 unfolding P2

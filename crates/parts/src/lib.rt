@@ -4,8 +4,8 @@ ghost use mathlib.Core.Bool.{_||_};
 ghost use Prim.Native.Nat.{_≤_};
 ghost use lib.ListN.{length, getD, replicate};
 ghost use Rattle.rules.specs.Classes.{isRemoved};
-ghost use Rattle.rules.specs.Jobs.{over};
-ghost use Rattle.rules.proofs.Any.{anyOf};
+ghost use Rattle.laws.specs.Parts.{over};
+ghost use Rattle.laws.specs.Any.{anyOf};
 
 // The element at `i`; past the end, what stands there: for the types of a run its end type, for levels the base.
 pub fn element_or(types: &[u8], i: usize, end: u8) -> u8

@@ -2,7 +2,7 @@
 use Prim.Native.Nat.{ℕ}
 use mathlib.Core.Path.{_≡_}
 use mathlib.Core.List.{List}
-use Rattle.rules.proofs.Determined.{determined}
+use Rattle.laws.proofs.Determined.{determined}
 use Rattle.printing.specs.Printing.{Prints}
 
 pub print-line-determined : {line before : List ℕ} {r s : ℕ} {x y : List ℕ} → Prints line before r x → Prints line before s y → (r ≡ s) × (x ≡ y)

@@ -7,7 +7,7 @@ use mathlib.Core.List.{List, [], _∷_, _++_, append-nil}
 use borrow.Author.Tests.{ltb-false}
 use lib.Dec.{ltb}
 use lib.ListN.{length, getD, length-append}
-use Rattle.rules.specs.Choice.{if_then_else_}
+use Rattle.laws.specs.Choice.{if_then_else_}
 use Rattle.rules.specs.Classes.{isUnknown, isParagraphEnd}
 use Rattle.rules.specs.Paragraph.{baseOf}
 use Rattle.rules.specs.Resolve.{resolvedLevels}

@@ -11,10 +11,11 @@ use lib.ListN.{length, take, drop, length-take, length-append}
 use lib.Seq.{take-all, take-append-seam}
 use Rattle.rules.specs.Paragraph.{baseOf}
 use Rattle.rules.specs.Resolve.{resolvedLevels}
-use Rattle.rules.specs.Line.{part, lineLevels, lineOrder}
+use Rattle.laws.specs.Parts.{part, over}
+use Rattle.rules.specs.Line.{lineLevels, lineOrder}
 use Rattle.rules.specs.Refusals.{Check, sound, refuse, _andThen_, checkSome, checkLength, checkClasses, checkRequest, checkLevelRoom, checkLine, checkOrderRoom, checksOfLevels, checksOfOrder, checksOfLine}
-use Rattle.rules.specs.Jobs.{accepted, refused, answered, over, levelsAnswer, resolveBuffer, lineAnswer, lineBuffer}
-use Rattle.rules.proofs.Lists.{le-or-lt}
+use Rattle.rules.specs.Jobs.{accepted, refused, answered, levelsAnswer, resolveBuffer, lineAnswer, lineBuffer}
+use Rattle.laws.proofs.Lists.{le-or-lt}
 use Rattle.refusals.proofs.SoundLaws.{classes-length, classes-some, levels-sound}
 use Rattle.resolve.proofs.WholeLaws.{length-resolved}
 use Rattle.melvorash.specs.Answers.{basePage, orderPage, Leaves, OrdersLine}

@@ -4,12 +4,12 @@ use mathlib.Core.Path.{_≡_}
 use mathlib.Core.List.{List, [], _∷_, _++_}
 use lib.Dec.{ltb}
 use lib.ListN.{length, take}
-use Rattle.rules.specs.Choice.{if_then_else_}
+use Rattle.laws.specs.Choice.{if_then_else_}
 use Rattle.rules.specs.Paragraph.{baseOf}
 use Rattle.rules.specs.Resolve.{resolvedLevels}
 use Rattle.rules.specs.Line.{lineOrder}
 use Rattle.rules.specs.Refusals.{Check, sound, refuse, _andThen_, checkClasses, checkRequest}
-use Rattle.rules.specs.Jobs.{over}
+use Rattle.laws.specs.Parts.{over}
 use Rattle.words.specs.Words.{linesOf, requestOf, classesOf}
 use Rattle.writing.specs.Text.{baseRow, levelsRow, orderRow, refusedRow}
 

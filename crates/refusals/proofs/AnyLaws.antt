@@ -10,7 +10,8 @@ use mathlib.Core.List.{List, [], _∷_}
 use lib.ListN.{length, getD, take, drop}
 use Rattle.rules.specs.Classes.{isUnknown, isParagraphEnd}
 use Rattle.rules.specs.Refusals.{Check, sound, refuse, _andThen_, faultAt, firstFault, isBadLevel, firstBadLevel}
-use Rattle.rules.proofs.Any.{anyOf, neither, none-first, anyPair, no-pair-first}
+use Rattle.laws.specs.Any.{anyOf, anyPair}
+use Rattle.laws.proofs.Any.{neither, none-first, no-pair-first}
 use Rattle.refusals.specs.Faults.{isFault}
 use Rattle.refusals.proofs.CheckLaws.{fault-none}
 

@@ -9,10 +9,10 @@ use mathlib.Core.List.{List, [], _∷_}
 use borrow.Author.Tests.{lt-ltb, le-ltb}
 use lib.Dec.{eqb, ltb}
 use lib.ListN.{length, getD, drop, drop-of-length-le}
-use Rattle.rules.specs.Choice.{if_then_else_}
+use Rattle.laws.specs.Choice.{if_then_else_}
 use Rattle.rules.specs.Classes.{isUnknown, isRemoved, isParagraphEnd}
 use Rattle.rules.specs.Refusals.{Check, sound, refuse, _andThen_, isEmpty, checkSome, checkLength, faultAt, firstFault, checkClasses, isBadLevel, firstBadLevel, endsRiseTo, checkEnds, checkMarkRoom, checksOfMarks}
-use Rattle.rules.proofs.Lists.{drop-next}
+use Rattle.laws.proofs.Lists.{drop-next}
 
 -- ---- the fault at one position
 pub fault-unknown : (at c : ℕ) (cs : List ℕ) → isUnknown c ≡ true → faultAt at c cs ≡ refuse 2 at

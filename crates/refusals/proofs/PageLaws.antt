@@ -2,9 +2,9 @@
 use Prim.Native.Nat.{ℕ}
 use mathlib.Core.Path.{_≡_, refl, sym, ap, _∙_}
 use lib.Dec.{eqb}
-use Rattle.rules.specs.Choice.{if_then_else_}
+use Rattle.laws.specs.Choice.{if_then_else_}
 use Rattle.rules.specs.Refusals.{Check, sound, refuse}
-use Rattle.rules.proofs.Determined.{determined}
+use Rattle.laws.proofs.Determined.{determined}
 use Rattle.refusals.specs.Page.{numberOf, placeOf, checkOf}
 use Rattle.refusals.specs.declared.Refusal.{Refusal}
 use Rattle.refusals.specs.declared.Refusal.the-variants.{NoClasses, UnknownClass, TooLong, EarlySeparator, BadBase, ShortLevels, BadLevel, BadLine, ShortOrder, BadEnds, ShortBuffer}

@@ -8,7 +8,7 @@ use borrow.Author.Tests.{ltb-false, leb-false, not-false}
 use lib.Dec.{leb, ltb}
 use lib.ListN.{length}
 use Rattle.rules.specs.Refusals.{Check, sound, refuse, _andThen_, refuseWhere, isEmpty, checkSome, checkLength, firstFault, checkClasses, checkRequest, checkBase, checkLevelRoom, firstBadLevel, checkLine, checkOrderRoom, endsRiseTo, checkEnds, checksOfLevels, checksOfOrder, checksOfLine, checksOfLines, checkMarkRoom, checksOfMarks}
-use Rattle.rules.proofs.Any.{neither}
+use Rattle.laws.proofs.Any.{neither}
 
 pub never-sound : {number place : ℕ} → refuse number place ≡ sound → ⊥
 never-sound e = let z : _≡_ {A = ℕ} 0 1 = cc in omega arith

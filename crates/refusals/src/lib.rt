@@ -4,7 +4,7 @@ ghost use mathlib.Core.Path.{_≡_};
 ghost use Prim.Native.Nat.{_+_, _≤_, _<_};
 ghost use lib.ListN.{length, getD, drop};
 ghost use Rattle.rules.specs.Refusals.{_andThen_, checkSome, checkLength, faultAt, firstFault, checkClasses, isBadLevel, firstBadLevel, endsRiseTo, checksOfLevels, checksOfOrder, checksOfLine, checksOfLines, checksOfMarks};
-ghost use Rattle.rules.proofs.Any.{anyOf, anyPair};
+ghost use Rattle.laws.specs.Any.{anyOf, anyPair};
 ghost use Rattle.refusals.specs.Page.{checkOf, numberOf, placeOf};
 ghost use Rattle.refusals.specs.Faults.{isFault};
 

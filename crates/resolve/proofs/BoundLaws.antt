@@ -7,7 +7,7 @@ use mathlib.Core.List.{List, [], _∷_, _++_, map}
 use borrow.Author.Tests.{le-ltb}
 use lib.Dec.{eqb}
 use lib.ListN.{length, getD, take, drop, length-append, length-take, length-drop}
-use Rattle.rules.specs.Choice.{headOr}
+use Rattle.laws.specs.Choice.{headOr}
 use Rattle.rules.specs.Classes.{isRemoved}
 use Rattle.rules.specs.Explicit.{X1, explicitLevels, explicitTypes, kept, putBack}
 use Rattle.rules.specs.Runs.{oneLonger, runLengths, boundaryType}
@@ -16,7 +16,7 @@ use Rattle.rules.specs.Weak.{weak}
 use Rattle.rules.specs.Neutral.{N1, N2}
 use Rattle.rules.specs.Resolve.{resolveRun, resolveRuns, resolveKept, resolvedLevels}
 use Rattle.rules.specs.Refusals.{sound, isBadLevel, firstBadLevel}
-use Rattle.rules.proofs.Passes.{by-test}
+use Rattle.laws.proofs.Passes.{by-test}
 use Rattle.explicit.proofs.ExplicitLaws.{length-levels, length-kept-types, explicit-at-most-61}
 use Rattle.weak.proofs.WeakLaws.{length-weak}
 use Rattle.neutral.proofs.NeutralLaws.{length-N}

@@ -6,11 +6,11 @@ use mathlib.Core.List.{List, _∷_, _++_, append-assoc, append-nil}
 use lib.ListN.{length, getD, take, drop, drop-of-length-le}
 use lib.Seq.{take-all}
 use borrow.Rule.Slice.PartMut.{midOf, putMid, post-is, mid-len, drop-put, same-len-mid}
-use Rattle.rules.specs.Choice.{headOr}
+use Rattle.laws.specs.Choice.{headOr}
 use Rattle.rules.specs.Runs.{runLengths, boundaryType}
 use Rattle.rules.specs.Resolve.{resolveRun, resolveRuns, resolveKept}
-use Rattle.rules.proofs.Lists.{take-put-end}
-use Rattle.rules.proofs.Passes.{head-drop, getD-within}
+use Rattle.laws.proofs.Lists.{take-put-end}
+use Rattle.laws.proofs.Passes.{head-drop, getD-within}
 use Rattle.resolve.specs.RunEnd.{RunEnd}
 
 runs-one : (base before : ℕ) (ls ts : List ℕ) (n : ℕ) (ns : List ℕ) → resolveRuns base before ls ts (n ∷ ns) ≡ resolveRun (headOr base ls) (boundaryType before (headOr base ls)) (boundaryType (headOr base ls) (headOr base (drop n ls))) (take n ts) ++ resolveRuns base (headOr base ls) (drop n ls) (drop n ts) ns

@@ -12,10 +12,12 @@ use Rattle.rules.specs.Classes.{isRemoved, isParagraphEnd}
 use Rattle.rules.specs.Explicit.{X1, X6level, X6type, levelHere, typeHere, explicitLevels, explicitTypes, kept, putBack}
 use Rattle.rules.specs.Runs.{oneLonger, runLengths, boundaryType}
 use Rattle.rules.specs.Resolve.{resolveRun, resolveRuns, resolveKept, resolvedLevels}
-use Rattle.rules.specs.Jobs.{over}
-use Rattle.rules.proofs.Any.{anyOf, none-first}
-use Rattle.rules.proofs.Passes.{by-test}
-use Rattle.rules.specs.Weak.{W1, W2, W3, W4, W5, W6, W7, stretches, weak}
+use Rattle.laws.specs.Parts.{over}
+use Rattle.laws.specs.Any.{anyOf}
+use Rattle.laws.proofs.Any.{none-first}
+use Rattle.laws.proofs.Passes.{by-test}
+use Rattle.laws.specs.Stretches.{stretches}
+use Rattle.rules.specs.Weak.{W1, W2, W3, W4, W5, W6, W7, weak}
 use Rattle.rules.specs.Neutral.{N1, N2}
 use Rattle.explicit.proofs.WalkLaws.{kept-stays}
 use Rattle.resolve.proofs.BoundLaws.{length-run}

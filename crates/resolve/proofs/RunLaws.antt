@@ -9,10 +9,10 @@ use mathlib.Core.List.{List, [], _∷_}
 use borrow.Author.Tests.{eq-eqb, ne-eqb}
 use lib.Dec.{eqb}
 use lib.ListN.{length, getD, drop, drop-of-length-le}
-use Rattle.rules.specs.Choice.{if_then_else_}
+use Rattle.laws.specs.Choice.{if_then_else_}
 use Rattle.rules.specs.Neutral.{levelDirection}
 use Rattle.rules.specs.Runs.{oneLonger, runLengths, boundaryType}
-use Rattle.rules.proofs.Lists.{drop-next}
+use Rattle.laws.proofs.Lists.{drop-next}
 use Rattle.resolve.specs.RunEnd.{RunEnd}
 
 -- a first run longer by k

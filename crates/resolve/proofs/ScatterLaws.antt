@@ -8,10 +8,10 @@ use mathlib.Core.Bool.{Bool, true, false}
 use mathlib.Core.List.{List, [], _∷_, _++_, append-assoc, tail}
 use lib.ListN.{length, getD, take, drop, set, length-take, length-set, take-append-drop}
 use lib.Seq.{take-length, drop-length, take-set-le, take-take, getD-take, getD-set-same}
-use Rattle.rules.specs.Choice.{if_then_else_, headOr}
+use Rattle.laws.specs.Choice.{if_then_else_, headOr}
 use Rattle.rules.specs.Classes.{isRemoved}
 use Rattle.rules.specs.Explicit.{putBack}
-use Rattle.rules.proofs.Lists.{drop-next, drop-set-next, take-next}
+use Rattle.laws.proofs.Lists.{drop-next, drop-set-next, take-next}
 use Rattle.resolve.specs.Packed.{keptIn}
 
 -- ---- how many are kept

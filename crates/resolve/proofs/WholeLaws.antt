@@ -9,7 +9,7 @@ use lib.Seq.{take-at, drop-at, length-take-le, drop-drop, drop-append-add}
 use Rattle.rules.specs.Classes.{isRemoved}
 use Rattle.rules.specs.Explicit.{X1, explicitLevels, explicitTypes, kept, putBack}
 use Rattle.rules.specs.Resolve.{resolveKept, resolvedLevels}
-use Rattle.rules.specs.Jobs.{over}
+use Rattle.laws.specs.Parts.{over}
 use Rattle.explicit.specs.Promises.{Gathered}
 use Rattle.explicit.proofs.ExplicitLaws.{length-levels, length-kept, length-kept-types, explicit-at-most-61}
 use Rattle.resolve.specs.Packed.{keptIn}

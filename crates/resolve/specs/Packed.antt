@@ -1,7 +1,7 @@
 -- How many of a paragraph's positions are kept.
 use Prim.Native.Nat.{ℕ, suc}
 use mathlib.Core.List.{List, [], _∷_}
-use Rattle.rules.specs.Choice.{if_then_else_}
+use Rattle.laws.specs.Choice.{if_then_else_}
 use Rattle.rules.specs.Classes.{isRemoved}
 
 unfoldable pub keptIn : List ℕ → ℕ

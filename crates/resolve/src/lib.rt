@@ -2,7 +2,7 @@
 ghost use mathlib.Core.Path.{_≡_};
 ghost use Prim.Native.Nat.{_≤_};
 ghost use lib.ListN.{length};
-ghost use Rattle.rules.specs.Jobs.{over};
+ghost use Rattle.laws.specs.Parts.{over};
 ghost use Rattle.rules.specs.Resolve.{resolvedLevels};
 
 mod plain;

@@ -4,9 +4,9 @@ ghost use mathlib.Core.Bool.{false};
 ghost use Prim.Native.Nat.{_≤_};
 ghost use lib.ListN.{length};
 ghost use Rattle.rules.specs.Classes.{isRemoved};
-ghost use Rattle.rules.specs.Jobs.{over};
+ghost use Rattle.laws.specs.Parts.{over};
 ghost use Rattle.rules.specs.Resolve.{resolvedLevels};
-ghost use Rattle.rules.proofs.Any.{anyOf};
+ghost use Rattle.laws.specs.Any.{anyOf};
 use crate::runs::boundary_type;
 use crate::runs::resolve_run;
 

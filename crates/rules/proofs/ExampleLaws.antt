@@ -3,11 +3,11 @@
 use Prim.Native.Nat.{ℕ}
 use mathlib.Core.Path.{_≡_, refl}
 use mathlib.Core.List.{List, []}
-use Rattle.rules.specs.Choice.{upFrom}
+use Rattle.laws.specs.Choice.{upFrom}
 use Rattle.rules.specs.Stacking.{taken, remaining, toBeginning, step2a, step2b, step2c, steps, step2, positions, classOf, isModifier, Draws}
 use Rattle.rules.specs.Examples.{Example, examples}
-use Rattle.rules.proofs.Settling.{insert, sort}
-use Rattle.rules.proofs.Every.{Every, every-then}
+use Rattle.laws.specs.Sorting.{insert, sort}
+use Rattle.laws.proofs.Every.{Every, every-then}
 use Rattle.rules.proofs.CanonicalLaws.{exchanges, canonical}
 
 -- what the rules give for a text, by insertion

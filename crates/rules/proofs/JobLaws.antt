@@ -6,7 +6,8 @@ use mathlib.Core.List.{List}
 use lib.ListN.{length, take, drop}
 use lib.Seq.{take-append-seam}
 use Rattle.rules.specs.Refusals.{Check, sound, refuse}
-use Rattle.rules.specs.Jobs.{Answer, accepted, refused, answered, whereSound, over}
+use Rattle.laws.specs.Parts.{over}
+use Rattle.rules.specs.Jobs.{Answer, accepted, refused, answered, whereSound}
 
 pub answer-refused : {check : Check} {number place : ℕ} (value : ℕ) → check ≡ refuse number place → refused number place ≡ answered check value
 answer-refused value e = rw e

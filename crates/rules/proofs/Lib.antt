@@ -1,17 +1,6 @@
--- Laws that every crate above cites.
-pub mod Determined
-pub mod Tests
-pub mod Lists
-pub mod Any
+-- Theorems about the definitions alone.
 pub mod Table
-pub mod Passes
-pub mod Filling
 pub mod JobLaws
-pub mod Settling
-pub mod Every
-pub mod Placing
-pub mod Sinking
-pub mod Upward
 pub mod EquivalentLaws
 pub mod Ranking
 pub mod CanonicalLaws

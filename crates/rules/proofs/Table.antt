@@ -12,8 +12,8 @@ use borrow.Author.Tests.{ne-eqb, eqb-true}
 use lib.Dec.{eqb}
 use lib.ListN.{getD, drop}
 use lib.Seq.{getD-drop}
-use Rattle.rules.specs.Choice.{if_then_else_}
-use Rattle.rules.proofs.Lists.{le-or-lt}
+use Rattle.laws.specs.Choice.{if_then_else_}
+use Rattle.laws.proofs.Lists.{le-or-lt}
 
 -- n entries are what the rule gives from k on
 abbrev pub follows : (ℕ → ℕ) → ℕ → ℕ → List ℕ → Bool

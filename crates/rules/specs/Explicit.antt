@@ -2,7 +2,7 @@
 use Prim.Native.Nat.{ℕ, _+_}
 use mathlib.Core.List.{List, [], _∷_, tail}
 use lib.Dec.{eqb, leb}
-use Rattle.rules.specs.Choice.{if_then_else_, isOdd, headOr}
+use Rattle.laws.specs.Choice.{if_then_else_, isOdd, headOr}
 use Rattle.rules.specs.Classes.{L, R, LRE, LRO, RLE, RLO, PDF, ON, isRemoved, isParagraphEnd}
 
 -- the highest level that a code may take

@@ -2,7 +2,7 @@
 use Prim.Native.Nat.{ℕ, _+_}
 use mathlib.Core.Bool.{_||_}
 use lib.Dec.{eqb}
-use Rattle.rules.specs.Choice.{if_then_else_, isOdd}
+use Rattle.laws.specs.Choice.{if_then_else_, isOdd}
 use Rattle.rules.specs.Classes.{L, R, EN, AN}
 
 -- I1: at an even level R goes up by 1, EN and AN by 2

@@ -2,6 +2,7 @@
 use Prim.Native.Nat.{ℕ}
 use mathlib.Core.List.{List, [], _++_}
 use lib.ListN.{length, drop}
+use Rattle.laws.specs.Parts.{over}
 use Rattle.rules.specs.Paragraph.{P1, baseByText, baseOf}
 use Rattle.rules.specs.Explicit.{X1, explicitLevels}
 use Rattle.rules.specs.Resolve.{resolvedLevels}
@@ -22,10 +23,6 @@ answered (refuse number place) value = refused number place
 abbrev pub whereSound : Check → List ℕ → List ℕ → List ℕ
 whereSound sound xs ys = xs
 whereSound (refuse number place) xs ys = ys
-
--- a buffer whose first places are written, and all after them as it was
-abbrev pub over : List ℕ → List ℕ → List ℕ
-over written buffer = written ++ drop (length written) buffer
 
 -- Cut: the first paragraph's length; and the paragraph itself, empty where it is refused
 unfoldable pub cutAnswer : List ℕ → Answer

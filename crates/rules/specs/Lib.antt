@@ -13,7 +13,6 @@
 --   steps 2a to 2c     Stacking, each under its name; step 2 is for all stretches of a text
 -- Refusals has the eleven refusals and each job's order of checks, Jobs what each job answers and leaves in its buffer,
 -- Table the eleven rows of document 01 that are proved, Examples the worked drawing orders.
-pub mod Choice
 pub mod Classes
 pub mod Paragraph
 pub mod Explicit

@@ -4,7 +4,8 @@ use mathlib.Core.Bool.{Bool, true, _||_, _&&_}
 use mathlib.Core.List.{List, [], _∷_, _++_, map}
 use lib.Dec.{leb}
 use lib.ListN.{take, drop}
-use Rattle.rules.specs.Choice.{if_then_else_, isOdd}
+use Rattle.laws.specs.Parts.{part}
+use Rattle.laws.specs.Choice.{if_then_else_, isOdd}
 use Rattle.rules.specs.Classes.{isRemoved, isSeparator, isBlank}
 
 -- nothing but blanks (removed positions do not interrupt them) up to a separator or the line's end
@@ -56,10 +57,6 @@ lowestOdd otherwise (x ∷ xs) =
 -- L2: from the highest level on the line down to the lowest odd one; with no odd level there is no pass
 unfoldable pub L2 : List Item → List Item
 L2 xs = passes (highest xs) (lowestOdd (suc (highest xs)) xs) xs
-
--- the part of a list from one place up to, not including, another
-unfoldable pub part : ℕ → ℕ → List ℕ → List ℕ
-part from to xs = take (to - from) (drop from xs)
 
 -- the levels of a line after its own reset
 unfoldable pub lineLevels : ℕ → List ℕ → List ℕ → ℕ → ℕ → List ℕ

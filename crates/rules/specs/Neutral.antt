@@ -3,9 +3,9 @@ use Prim.Native.Nat.{ℕ}
 use mathlib.Core.Bool.{_||_}
 use mathlib.Core.List.{List, map}
 use lib.Dec.{eqb}
-use Rattle.rules.specs.Choice.{if_then_else_, isOdd}
+use Rattle.laws.specs.Choice.{if_then_else_, isOdd}
 use Rattle.rules.specs.Classes.{L, R, EN, AN, isNeutral}
-use Rattle.rules.specs.Weak.{stretches}
+use Rattle.laws.specs.Stretches.{stretches}
 
 -- the direction of a type beside neutrals: EN and AN count as R
 unfoldable pub direction : ℕ → ℕ

@@ -2,7 +2,7 @@
 use Prim.Native.Nat.{ℕ}
 use mathlib.Core.List.{List, [], _∷_, _++_, map}
 use lib.ListN.{take, drop}
-use Rattle.rules.specs.Choice.{headOr}
+use Rattle.laws.specs.Choice.{headOr}
 use Rattle.rules.specs.Explicit.{X1, explicitLevels, explicitTypes, kept, putBack}
 use Rattle.rules.specs.Runs.{runLengths, boundaryType}
 use Rattle.rules.specs.Weak.{weak}

@@ -8,11 +8,13 @@ use Rattle.rules.specs.Classes.{L, R, AL, RLE, PDF, EN, ET, AN, CS, BN, 
 use Rattle.rules.specs.Paragraph.{P2, P3, baseByText, baseOf}
 use Rattle.rules.specs.Explicit.{removedLevel, X1, leastGreaterOdd, leastGreaterEven, opening, closing, X2, X3, X4, X5, X6level, X6type, X7, verdict, after, step, levelHere, typeHere, explicitLevels, explicitTypes, kept, putBack}
 use Rattle.rules.specs.Runs.{oneLonger, runLengths, boundaryType}
-use Rattle.rules.specs.Weak.{W1, W2, changeW3, W3, changeW4, W4, afterStretch, stretches, isTerminator, changeW5, W5, changeW6, W6, W7, weak}
+use Rattle.laws.specs.Stretches.{afterStretch, stretches}
+use Rattle.rules.specs.Weak.{W1, W2, changeW3, W3, changeW4, W4, isTerminator, changeW5, W5, changeW6, W6, W7, weak}
 use Rattle.rules.specs.Neutral.{direction, changeN1, N1, levelDirection, changeN2, N2}
 use Rattle.rules.specs.Implicit.{I1, I2, implicitLevel}
 use Rattle.rules.specs.Resolve.{resolveRun, resolveRuns, resolveKept, resolvedLevels}
-use Rattle.rules.specs.Line.{blankAhead, L1, items, pass, passes, highest, lowestOdd, L2, part, lineLevels, lineOrder}
+use Rattle.laws.specs.Parts.{part}
+use Rattle.rules.specs.Line.{blankAhead, L1, items, pass, passes, highest, lowestOdd, L2, lineLevels, lineOrder}
 use Rattle.rules.specs.Refusals.{checkSome, checkLength, faultAt, firstFault, checkClasses, checkRequest, checkBase, checkLevelRoom, isBadLevel, firstBadLevel, checkLine, checkOrderRoom, checksOfLevels, checksOfOrder, checksOfLine}
 use Rattle.rules.specs.Jobs.{Answer, accepted, levelsAnswer, resolveBuffer, lineAnswer, lineBuffer}
 

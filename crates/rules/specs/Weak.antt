@@ -3,7 +3,8 @@ use Prim.Native.Nat.{ℕ}
 use mathlib.Core.Bool.{Bool, _||_, _&&_}
 use mathlib.Core.List.{List, [], _∷_, map}
 use lib.Dec.{eqb}
-use Rattle.rules.specs.Choice.{if_then_else_, headOr}
+use Rattle.laws.specs.Stretches.{stretches}
+use Rattle.laws.specs.Choice.{if_then_else_, headOr}
 use Rattle.rules.specs.Classes.{L, R, AL, EN, ES, ET, AN, CS, NSM, ON, isStrong}
 
 -- W1: NSM takes the type before it, at the start of the run the start type
@@ -34,18 +35,6 @@ changeW4 before t next =
 unfoldable pub W4 : ℕ → ℕ → List ℕ → List ℕ
 W4 before eor [] = []
 W4 before eor (t ∷ ts) = changeW4 before t (headOr eor ts) ∷ W4 t eor ts
-
--- a longest stretch of types that pass a test: what stands after it
-unfoldable pub afterStretch : (ℕ → Bool) → ℕ → List ℕ → ℕ
-afterStretch test end [] = end
-afterStretch test end (t ∷ ts) = if test t then afterStretch test end ts else t
-
--- each type of such a stretch is changed by what stands before and after the whole stretch
-unfoldable pub stretches : (ℕ → Bool) → (ℕ → ℕ → ℕ → ℕ) → ℕ → ℕ → List ℕ → List ℕ
-stretches test change before end [] = []
-stretches test change before end (t ∷ ts) =
-    if test t then change before (afterStretch test end ts) t ∷ stretches test change before end ts
-    else t ∷ stretches test change t end ts
 
 -- W5: a stretch of ET that touches EN becomes EN
 unfoldable pub isTerminator : ℕ → Bool

@@ -8,7 +8,7 @@ use mathlib.Core.List.{List, [], _∷_, _++_, append-nil}
 use lib.ListN.{length, getD, take, drop, set, length-set, drop-of-length-le}
 use lib.Seq.{take-all, drop-set-lt}
 use Rattle.rules.specs.Weak.{W1, W2, W3, W4, changeW3, changeW4}
-use Rattle.rules.proofs.Lists.{take-set-next, drop-next}
+use Rattle.laws.proofs.Lists.{take-set-next, drop-next}
 use Rattle.weak.specs.Steps.{changeW1, changeW2, strongW2}
 use Rattle.weak.proofs.WeakLaws.{W1-cons}
 

@@ -12,9 +12,10 @@ use lib.Dec.{eqb}
 use lib.ListN.{length, getD, take, drop, set, replicate, length-set, length-replicate, drop-of-length-le}
 use lib.Seq.{take-all, getD-drop, drop-drop}
 use Rattle.rules.specs.Classes.{EN, ES, ET, CS}
-use Rattle.rules.specs.Weak.{W5, W6, W7, changeW5, changeW6, isTerminator, afterStretch, stretches}
-use Rattle.rules.proofs.Lists.{take-set-next, drop-next, drop-set-next, take-put-end}
-use Rattle.rules.proofs.Passes.{span, span-end, after-span, stretches-nil, stretches-over, filled, by-test}
+use Rattle.laws.specs.Stretches.{afterStretch, stretches, span}
+use Rattle.rules.specs.Weak.{W5, W6, W7, changeW5, changeW6, isTerminator}
+use Rattle.laws.proofs.Lists.{take-set-next, drop-next, drop-set-next, take-put-end}
+use Rattle.laws.proofs.Passes.{span-end, after-span, stretches-nil, stretches-over, filled, by-test}
 use Rattle.weak.specs.Steps.{changeW7, strongW7}
 use Rattle.weak.proofs.WeakLaws.{W5-same}
 

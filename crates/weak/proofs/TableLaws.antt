@@ -10,10 +10,10 @@ use borrow.Author.Tests.{eqb-true}
 use lib.Dec.{eqb}
 use lib.ListN.{getD, drop}
 use lib.Seq.{getD-drop}
-use Rattle.rules.specs.Choice.{if_then_else_}
+use Rattle.laws.specs.Choice.{if_then_else_}
 use Rattle.rules.specs.Classes.{L, R, AL, EN, ES, ET, AN, CS, ON, isStrong}
 use Rattle.rules.specs.Weak.{changeW3, changeW6}
-use Rattle.rules.proofs.Passes.{by-test}
+use Rattle.laws.proofs.Passes.{by-test}
 use Rattle.rules.proofs.Table.{Follows, Flat, no-class, at-class, at-row}
 use Rattle.weak.specs.Tables.{early, late}
 use Rattle.weak.specs.Steps.{changeW2, strongW2, changeW7, strongW7}

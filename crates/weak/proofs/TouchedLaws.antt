@@ -8,12 +8,14 @@ use mathlib.Core.List.{List, [], _∷_, _++_}
 use borrow.Author.Tests.{eqb-true}
 use lib.Dec.{eqb}
 use lib.ListN.{length, getD, take, drop, take-append-drop, drop-of-length-le}
-use Rattle.rules.specs.Choice.{if_then_else_, headOr}
+use Rattle.laws.specs.Choice.{if_then_else_, headOr}
 use Rattle.rules.specs.Classes.{L, R, AL, EN, ES, ET, AN, CS, NSM, isStrong}
-use Rattle.rules.specs.Weak.{W1, W2, W3, W4, W5, W6, W7, changeW3, changeW4, changeW5, changeW6, isTerminator, afterStretch, stretches, weak}
-use Rattle.rules.proofs.Any.{anyOf, none-first}
-use Rattle.rules.proofs.Lists.{drop-next}
-use Rattle.rules.proofs.Passes.{by-test, head-drop}
+use Rattle.laws.specs.Stretches.{afterStretch, stretches}
+use Rattle.rules.specs.Weak.{W1, W2, W3, W4, W5, W6, W7, changeW3, changeW4, changeW5, changeW6, isTerminator, weak}
+use Rattle.laws.specs.Any.{anyOf}
+use Rattle.laws.proofs.Any.{none-first}
+use Rattle.laws.proofs.Lists.{drop-next}
+use Rattle.laws.proofs.Passes.{by-test, head-drop}
 use Rattle.weak.specs.Steps.{strongW2, strongW7, isTouched}
 
 -- what a type is not that no rule asks for

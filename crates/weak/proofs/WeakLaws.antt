@@ -8,10 +8,10 @@ use mathlib.Core.List.{List, [], _∷_}
 use borrow.Author.Tests.{eqb-true, ne-eqb}
 use lib.Dec.{eqb}
 use lib.ListN.{length}
-use Rattle.rules.specs.Choice.{headOr}
+use Rattle.laws.specs.Choice.{headOr}
 use Rattle.rules.specs.Classes.{EN, ES, ET, AN, CS, NSM}
 use Rattle.rules.specs.Weak.{W1, W2, W3, W4, W5, W6, W7, changeW3, changeW4, changeW5, changeW6, isTerminator, weak}
-use Rattle.rules.proofs.Passes.{sweep, length-sweep, map-sweep, length-stretches, by-test}
+use Rattle.laws.proofs.Passes.{sweep, length-sweep, map-sweep, length-stretches, by-test}
 use Rattle.weak.specs.Steps.{changeW1, changeW2, strongW2, changeW7, strongW7}
 
 pub W1-cons : (before t : ℕ) (ts : List ℕ) → W1 before (t ∷ ts) ≡ changeW1 before t ∷ W1 (changeW1 before t) ts

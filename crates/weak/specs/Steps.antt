@@ -3,7 +3,7 @@
 use Prim.Native.Nat.{ℕ}
 use mathlib.Core.Bool.{Bool, _||_, _&&_}
 use lib.Dec.{eqb, leb}
-use Rattle.rules.specs.Choice.{if_then_else_}
+use Rattle.laws.specs.Choice.{if_then_else_}
 use Rattle.rules.specs.Classes.{L, R, AL, EN, AN, NSM, isStrong}
 
 unfoldable pub changeW1 : ℕ → ℕ → ℕ

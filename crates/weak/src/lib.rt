@@ -6,8 +6,8 @@ ghost use Prim.Native.Nat.{_+_, _≤_};
 ghost use lib.ListN.{length, drop};
 ghost use Rattle.rules.specs.Weak.{W1, W2, W3, W4, W5, W6, W7, changeW4, changeW5, isTerminator, weak};
 ghost use Rattle.rules.specs.Classes.{ET};
-ghost use Rattle.rules.proofs.Any.{anyOf};
-ghost use Rattle.rules.proofs.Passes.{span};
+ghost use Rattle.laws.specs.Any.{anyOf};
+ghost use Rattle.laws.specs.Stretches.{span};
 ghost use Rattle.weak.specs.Tables.{early, late};
 ghost use Rattle.weak.specs.Steps.{changeW1, isTouched};
 

@@ -6,7 +6,7 @@
 ghost use mathlib.Core.Path.{_≡_};
 ghost use lib.Dec.{eqb};
 ghost use Prim.Native.Nat.{_≤_};
-ghost use Rattle.rules.specs.Choice.{if_then_else_};
+ghost use Rattle.laws.specs.Choice.{if_then_else_};
 ghost use Rattle.rules.specs.Weak.{changeW3, changeW6};
 ghost use Rattle.weak.specs.Steps.{changeW2, strongW2, changeW7, strongW7};
 ghost use Rattle.weak.specs.Tables.{early, late};

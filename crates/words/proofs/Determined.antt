@@ -3,7 +3,7 @@
 use Prim.Native.Nat.{ℕ}
 use mathlib.Core.Path.{_≡_}
 use mathlib.Core.List.{List}
-use Rattle.rules.proofs.Determined.{determined}
+use Rattle.laws.proofs.Determined.{determined}
 use Rattle.words.specs.Read.{ClassesRead}
 
 pub read-classes-determined : {line before : List ℕ} {r s : ℕ} {x y : List ℕ} → ClassesRead line before r x → ClassesRead line before s y → (r ≡ s) × (x ≡ y)

@@ -7,7 +7,7 @@ use mathlib.Core.Path.{_≡_, refl, sym, ap, _∙_}
 use mathlib.Core.Logic.{_⊎_, inl, inr}
 use mathlib.Core.List.{List, [], _∷_}
 use lib.ListN.{length, take, drop, length-take, length-drop, drop-of-length-le}
-use Rattle.rules.proofs.Lists.{le-or-lt}
+use Rattle.laws.proofs.Lists.{le-or-lt}
 use Rattle.words.specs.Words.{lineFeed, partsAt, partEnd, withoutEmptyLast, linesOf}
 use Rattle.words.proofs.PartLaws.{partsBehind, parts-next, behind-next, behind-end}
 

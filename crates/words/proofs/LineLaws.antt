@@ -6,7 +6,7 @@ use mathlib.Core.Path.{_≡_, sym, ap, _∙_}
 use mathlib.Core.List.{List, [], _∷_, map}
 use lib.ListN.{length, take, drop, set}
 use lib.Seq.{take-nil}
-use Rattle.rules.proofs.Filling.{Filled, filled-from, filled-more, filled-all, filled-count}
+use Rattle.laws.proofs.Filling.{Filled, filled-from, filled-more, filled-all, filled-count}
 use Rattle.words.specs.Words.{space, firstPart, laterParts, partEnd, classNamed, requestNamed, requestOf, classesOf}
 use Rattle.words.specs.Read.{ClassesRead}
 use Rattle.words.proofs.PartLaws.{partsBehind, parts-next, behind-next, behind-end, end-within}

@@ -10,8 +10,8 @@ use lib.Dec.{eqb}
 use lib.ListN.{length, getD, take, drop, length-take, length-drop, drop-of-length-le}
 use lib.Seq.{drop-drop}
 use borrow.Author.Tests.{eq-eqb, ne-eqb}
-use Rattle.rules.proofs.Lists.{drop-next}
-use Rattle.rules.proofs.Passes.{by-test}
+use Rattle.laws.proofs.Lists.{drop-next}
+use Rattle.laws.proofs.Passes.{by-test}
 use Rattle.words.specs.Words.{toFirst, partsAt, firstPart, partEnd}
 
 module _ (s : ℕ) where

@@ -8,8 +8,8 @@ use mathlib.Core.List.{List, [], _∷_}
 use lib.Dec.{eqb}
 use lib.ListN.{length, getD, drop, drop-of-length-le}
 use borrow.Author.Tests.{eq-eqb, ne-eqb}
-use Rattle.rules.proofs.Lists.{drop-next}
-use Rattle.rules.specs.Choice.{if_then_else_}
+use Rattle.laws.proofs.Lists.{drop-next}
+use Rattle.laws.specs.Choice.{if_then_else_}
 use Rattle.words.specs.Words.{sameWord}
 
 same-nil : sameWord [] [] ≡ true

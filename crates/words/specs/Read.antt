@@ -3,7 +3,7 @@ use Prim.Native.Nat.{ℕ}
 use mathlib.Core.Path.{_≡_}
 use mathlib.Core.List.{List}
 use lib.ListN.{length, take}
-use Rattle.rules.specs.Jobs.{over}
+use Rattle.laws.specs.Parts.{over}
 use Rattle.words.specs.Words.{classesOf}
 
 pub record ClassesRead (line entry : List ℕ) (r : ℕ) (exit : List ℕ) : Type 0 where

@@ -3,7 +3,7 @@
 use Prim.Native.Nat.{ℕ}
 use mathlib.Core.Path.{_≡_}
 use mathlib.Core.List.{List}
-use Rattle.rules.proofs.Determined.{determined}
+use Rattle.laws.proofs.Determined.{determined}
 use Rattle.writing.specs.Text.{numberText, baseRow, levelsRow, orderRow, refusedRow, Puts}
 
 module _ {before x y : List ℕ} {at r s : ℕ} where

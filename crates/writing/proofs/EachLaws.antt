@@ -6,7 +6,7 @@ use mathlib.Core.Path.{_≡_, refl, sym, ap, _∙_}
 use mathlib.Core.List.{List, [], _∷_, _++_, append-nil, append-assoc}
 use lib.ListN.{length, getD, take}
 use lib.Seq.{take-all}
-use Rattle.rules.proofs.Lists.{take-next}
+use Rattle.laws.proofs.Lists.{take-next}
 use Rattle.words.specs.Words.{space}
 use Rattle.writing.specs.Text.{spaced, Puts}
 use Rattle.writing.proofs.TextLaws.{puts-nothing, puts-then, puts-same}

@@ -5,7 +5,7 @@ use mathlib.Core.Path.{_≡_, ap}
 use mathlib.Core.List.{List, [], _∷_, _++_}
 use lib.Dec.{ltb}
 use borrow.Author.Tests.{ltb-false, lt-ltb, le-ltb}
-use Rattle.rules.proofs.Passes.{by-test}
+use Rattle.laws.proofs.Passes.{by-test}
 use Rattle.writing.specs.Text.{digit, decimal, numberText}
 
 -- any two bounds on the count of digits that are large enough give one text

@@ -11,7 +11,7 @@ use borrow.Author.Tests.{ltb-true, ltb-false}
 use Rattle.rules.specs.Classes.{isRemoved}
 use Rattle.rules.specs.Explicit.{removedLevel}
 use Rattle.rules.specs.Refusals.{sound, refuse, isBadLevel, firstBadLevel}
-use Rattle.rules.proofs.Passes.{by-test}
+use Rattle.laws.proofs.Passes.{by-test}
 use Rattle.words.specs.Words.{space, lineFeed}
 use Rattle.writing.specs.Text.{digit, numberText, levelText, spaced, baseName, levelsName, orderName, refusedName, baseRow, levelsRow, orderRow, refusedRow}
 use Rattle.writing.proofs.NumberLaws.{one-digit, more-digits}

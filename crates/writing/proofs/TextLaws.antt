@@ -7,8 +7,8 @@ use mathlib.Core.Logic.{_⊎_, inl, inr}
 use mathlib.Core.List.{List, [], _∷_, _++_}
 use lib.ListN.{length, drop, set, length-append, length-set}
 use lib.Seq.{set-out, sets, sets-eq}
-use Rattle.rules.specs.Jobs.{over}
-use Rattle.rules.proofs.Lists.{le-or-lt}
+use Rattle.laws.specs.Parts.{over}
+use Rattle.laws.proofs.Lists.{le-or-lt}
 use Rattle.writing.specs.Text.{putText, Puts}
 
 -- ---- the buffer

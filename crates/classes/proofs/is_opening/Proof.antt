@@ -1,6 +1,6 @@
 -- `classes::is_opening` meets its contract: each return is one way through the chain of tests.
 -- Assumes nothing.
-use Rattle.rules.proofs.Tests.{tests}
+use Rattle.laws.proofs.Tests.{tests}
 use Rattle.rules.specs.Classes.{isOpening}
 use borrow.Author.Needs.{needs}
 use Rattle.classes.proofs.is_opening.Statement.{statement}

@@ -1,6 +1,6 @@
 -- `classes::is_separator` meets its contract: each return is one way through the chain of tests.
 -- Assumes nothing.
-use Rattle.rules.proofs.Tests.{tests}
+use Rattle.laws.proofs.Tests.{tests}
 use Rattle.rules.specs.Classes.{isSeparator}
 use borrow.Author.Needs.{needs}
 use Rattle.classes.proofs.is_separator.Statement.{statement}

@@ -1,6 +1,6 @@
 -- `classes::is_strong` meets its contract: each return is one way through the chain of tests.
 -- Assumes nothing.
-use Rattle.rules.proofs.Tests.{tests}
+use Rattle.laws.proofs.Tests.{tests}
 use Rattle.rules.specs.Classes.{isStrong}
 use borrow.Author.Needs.{needs}
 use Rattle.classes.proofs.is_strong.Statement.{statement}

@@ -1,6 +1,6 @@
 -- `classes::is_unknown` meets its contract: one comparison.
 -- Assumes nothing.
-use Rattle.rules.proofs.Tests.{tests}
+use Rattle.laws.proofs.Tests.{tests}
 use Rattle.rules.specs.Classes.{isUnknown}
 use borrow.Author.Needs.{needs}
 use Rattle.classes.proofs.is_unknown.Statement.{statement}

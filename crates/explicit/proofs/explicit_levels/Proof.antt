@@ -6,8 +6,8 @@ use lib.ListN.{length, drop}
 use Rattle.rules.specs.Explicit.{X1, levelHere, explicitLevels}
 use Rattle.explicit.specs.Meaning.{meaning}
 use Rattle.explicit.proofs.ExplicitLaws.{levels-none, levels-more}
-use Rattle.rules.proofs.Tests.{known}
-use Rattle.rules.proofs.Filling.{Filled, filled-all}
+use Rattle.laws.proofs.Tests.{known}
+use Rattle.laws.proofs.Filling.{Filled, filled-all}
 use Rattle.explicit.proofs.WalkLaws.{Walk, walk-begun, walk-next, walk-stays, kept-stays, phase-begun, phase-written, phase-ended}
 use borrow.Author.Needs.{needs}
 use Rattle.explicit.proofs.explicit_levels.Statement.{statement}

@@ -6,8 +6,8 @@ use lib.ListN.{length, drop}
 use Rattle.rules.specs.Explicit.{X1, levelHere, typeHere, explicitLevels, explicitTypes, kept}
 use Rattle.explicit.specs.Meaning.{meaning}
 use Rattle.explicit.proofs.ExplicitLaws.{levels-more, types-more}
-use Rattle.rules.proofs.Tests.{known}
-use Rattle.rules.proofs.Filling.{Filled, filled-count, filled-all}
+use Rattle.laws.proofs.Tests.{known}
+use Rattle.laws.proofs.Filling.{Filled, filled-count, filled-all}
 use Rattle.explicit.proofs.WalkLaws.{Walk, walk-begun, walk-next, walk-stays, kept-stays, kept-begun, kept-written, kept-passed, kept-ended}
 use borrow.Author.Needs.{needs}
 use Rattle.explicit.proofs.gather.Statement.{statement}

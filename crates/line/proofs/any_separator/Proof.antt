@@ -5,7 +5,8 @@ use mathlib.Core.Bool.{_||_}
 use mathlib.Core.Path.{_≡_, _∙_, ap}
 use lib.ListN.{length, drop}
 use Rattle.rules.specs.Classes.{isSeparator}
-use Rattle.rules.proofs.Any.{anyOf, any-begun, any-next, any-done}
+use Rattle.laws.specs.Any.{anyOf}
+use Rattle.laws.proofs.Any.{any-begun, any-next, any-done}
 use borrow.Author.Needs.{needs}
 use Rattle.line.proofs.any_separator.Statement.{statement}
 use Rattle.line.proofs.any_separator.Tie as tie

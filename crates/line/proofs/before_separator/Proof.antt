@@ -1,6 +1,6 @@
 -- `line::before_separator` meets its contract: a separator is left out only where it is the last.
 -- Assumes nothing.
-use Rattle.rules.proofs.Tests.{known}
+use Rattle.laws.proofs.Tests.{known}
 use Rattle.line.proofs.TailLaws.{rest-all, rest-ended}
 use borrow.Author.Needs.{needs}
 use Rattle.line.proofs.before_separator.Statement.{statement}

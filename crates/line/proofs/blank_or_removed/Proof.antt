@@ -1,6 +1,6 @@
 -- `line::blank_or_removed` meets its contract: the branch taken decides the first test.
 -- Assumes nothing.
-use Rattle.rules.proofs.Tests.{known}
+use Rattle.laws.proofs.Tests.{known}
 use borrow.Author.Needs.{needs}
 use Rattle.line.proofs.blank_or_removed.Statement.{statement}
 use Rattle.line.proofs.blank_or_removed.Tie as tie

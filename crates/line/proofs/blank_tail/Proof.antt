@@ -1,6 +1,6 @@
 -- `line::blank_tail` meets its contract. The invariant: from i on all is blank or removed. The measure is the number of positions left.
 -- Assumes nothing.
-use Rattle.rules.proofs.Tests.{known}
+use Rattle.laws.proofs.Tests.{known}
 use Rattle.line.proofs.TailLaws.{Blank, blank-begun, blank-next, blank-stops, blank-all}
 use borrow.Author.Needs.{needs}
 use Rattle.line.proofs.blank_tail.Statement.{statement}

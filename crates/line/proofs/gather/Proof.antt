@@ -1,6 +1,6 @@
 -- `line::gather` meets its contract: where nothing is removed the levels are what is kept of them, and the positions go up by one.
 -- Assumes nothing.
-use Rattle.rules.proofs.Tests.{known}
+use Rattle.laws.proofs.Tests.{known}
 use Rattle.line.proofs.GatherLaws.{all-gathered}
 use borrow.Author.Needs.{needs}
 use Rattle.line.proofs.gather.Statement.{statement}

@@ -2,7 +2,7 @@
 -- Assumes nothing.
 use mathlib.Core.Path.{sym}
 use lib.Seq.{length-take-le}
-use Rattle.rules.proofs.Tests.{known}
+use Rattle.laws.proofs.Tests.{known}
 use Rattle.line.proofs.TailLaws.{part-fits, reset-joined}
 use borrow.Author.Needs.{needs}
 use Rattle.line.proofs.reset_rest.Statement.{statement}

@@ -2,7 +2,7 @@
 -- Assumes nothing.
 use Prim.Native.Nat.{_-_, _≤_}
 use lib.ListN.{length}
-use Rattle.rules.proofs.Filling.{Filled, filled-begun}
+use Rattle.laws.proofs.Filling.{Filled, filled-begun}
 use Rattle.line.proofs.PassLaws.{passFrom, starts, ends, goes-on, next, ended}
 use borrow.Author.Needs.{needs}
 use Rattle.line.proofs.reverse_stretches.Statement.{statement}

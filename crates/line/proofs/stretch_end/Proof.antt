@@ -5,7 +5,8 @@ use mathlib.Core.Path.{_≡_, refl, sym, _∙_}
 use lib.ListN.{length, drop}
 use lib.Dec.{leb}
 use borrow.Author.Tests.{le-leb, lt-leb}
-use Rattle.rules.proofs.Passes.{span, span-further, span-there, span-past}
+use Rattle.laws.specs.Stretches.{span}
+use Rattle.laws.proofs.Passes.{span-further, span-there, span-past}
 use borrow.Author.Needs.{needs}
 use Rattle.line.proofs.stretch_end.Statement.{statement}
 use Rattle.line.proofs.stretch_end.Tie as tie

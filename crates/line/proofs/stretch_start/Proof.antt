@@ -4,7 +4,8 @@ use Prim.Native.Nat.{_+_, _-_, _≤_}
 use mathlib.Core.Path.{_≡_, refl, sym, _∙_}
 use lib.ListN.{length, drop}
 use borrow.Author.Tests.{lt-ltb, le-ltb}
-use Rattle.rules.proofs.Passes.{span, span-further, span-there, span-past}
+use Rattle.laws.specs.Stretches.{span}
+use Rattle.laws.proofs.Passes.{span-further, span-there, span-past}
 use Rattle.line.specs.Passes.{below}
 use borrow.Author.Needs.{needs}
 use Rattle.line.proofs.stretch_start.Statement.{statement}

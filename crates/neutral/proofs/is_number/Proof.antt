@@ -1,5 +1,5 @@
 -- `neutral::is_number` meets its contract: the test on the way to each return decides it. Assumes nothing.
-use Rattle.rules.proofs.Tests.{tests}
+use Rattle.laws.proofs.Tests.{tests}
 use borrow.Author.Needs.{needs}
 use Rattle.neutral.proofs.is_number.Statement.{statement}
 use Rattle.neutral.proofs.is_number.Tie as tie

@@ -8,8 +8,9 @@ use lib.ListN.{length, drop}
 use Rattle.rules.specs.Classes.{ON, isNeutral}
 use Rattle.rules.specs.Neutral.{changeN1, changeN2}
 use Rattle.rules.specs.Implicit.{implicitLevel}
-use Rattle.rules.proofs.Tests.{known}
-use Rattle.rules.proofs.Passes.{Spread, spread-begun, spread-over, spread-filled, spread-done, span, span-further, span-found}
+use Rattle.laws.proofs.Tests.{known}
+use Rattle.laws.specs.Stretches.{span}
+use Rattle.laws.proofs.Passes.{Spread, spread-begun, spread-over, spread-filled, spread-done, span-further, span-found}
 use Rattle.neutral.proofs.NeutralLaws.{N-same, N1-N2}
 use borrow.Author.Needs.{needs}
 use Rattle.neutral.proofs.neutral_levels.Statement.{statement}

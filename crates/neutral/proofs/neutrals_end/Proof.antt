@@ -4,7 +4,8 @@ use Prim.Native.Nat.{_+_, _-_}
 use mathlib.Core.Path.{_≡_, refl, sym, _∙_}
 use lib.ListN.{length, drop}
 use Rattle.rules.specs.Classes.{isNeutral}
-use Rattle.rules.proofs.Passes.{span, span-further, span-there, span-past}
+use Rattle.laws.specs.Stretches.{span}
+use Rattle.laws.proofs.Passes.{span-further, span-there, span-past}
 use borrow.Author.Needs.{needs}
 use Rattle.neutral.proofs.neutrals_end.Statement.{statement}
 use Rattle.neutral.proofs.neutrals_end.Tie as tie

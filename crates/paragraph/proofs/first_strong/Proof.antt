@@ -5,7 +5,7 @@ use mathlib.Core.Path.{_≡_, refl}
 use lib.ListN.{length, drop}
 use native.Mathlib.Omega.{arith}
 use Rattle.rules.specs.Paragraph.{P2}
-use Rattle.rules.proofs.Tests.{known}
+use Rattle.laws.proofs.Tests.{known}
 use Rattle.paragraph.proofs.BaseLaws.{search-found, search-on, search-none}
 use borrow.Author.Needs.{needs}
 use Rattle.paragraph.proofs.first_strong.Statement.{statement}

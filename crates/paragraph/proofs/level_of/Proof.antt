@@ -1,7 +1,7 @@
 -- `paragraph::level_of` meets its contract: each return is one way through the tests on the class found.
 -- Assumes nothing.
 use Rattle.rules.specs.Paragraph.{P3}
-use Rattle.rules.proofs.Tests.{tests}
+use Rattle.laws.proofs.Tests.{tests}
 use borrow.Author.Tests.{ne-eqb}
 use borrow.Author.Needs.{needs}
 use Rattle.paragraph.proofs.level_of.Statement.{statement}

@@ -5,7 +5,8 @@ use mathlib.Core.Bool.{_||_}
 use mathlib.Core.Path.{_≡_}
 use lib.ListN.{length, drop}
 use Rattle.rules.specs.Classes.{isRemoved}
-use Rattle.rules.proofs.Any.{anyOf, any-begun, any-next, any-done}
+use Rattle.laws.specs.Any.{anyOf}
+use Rattle.laws.proofs.Any.{any-begun, any-next, any-done}
 use borrow.Author.Needs.{needs}
 use Rattle.parts.proofs.any_removed.Statement.{statement}
 use Rattle.parts.proofs.any_removed.Tie as tie

@@ -4,8 +4,8 @@ use Prim.Native.Nat.{_-_, _≤_}
 use native.Mathlib.Omega.{arith}
 use mathlib.Core.Path.{refl}
 use lib.ListN.{length, drop, drop-of-length-le}
-use Rattle.rules.proofs.Lists.{drop-next}
-use Rattle.rules.proofs.Filling.{Filled, filled-from, filled-more, filled-all}
+use Rattle.laws.proofs.Lists.{drop-next}
+use Rattle.laws.proofs.Filling.{Filled, filled-from, filled-more, filled-all}
 use borrow.Author.Needs.{needs}
 use Rattle.parts.proofs.copy.Statement.{statement}
 use Rattle.parts.proofs.copy.Tie as tie

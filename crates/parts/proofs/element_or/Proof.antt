@@ -4,7 +4,7 @@ use lib.ListN.{List·getD-eq-default}
 use mathlib.Core.Path.{sym}
 use denote.Ref.{now}
 use borrow.Author.Needs.{needs}
-use Rattle.rules.proofs.Passes.{getD-within}
+use Rattle.laws.proofs.Passes.{getD-within}
 use Rattle.parts.proofs.element_or.Statement.{statement}
 use Rattle.parts.proofs.element_or.Tie as tie
 

@@ -5,7 +5,7 @@ use native.Mathlib.Omega.{arith}
 use mathlib.Core.Path.{refl, sym, ap, _∙_}
 use lib.ListN.{length, replicate, length-set}
 use denote.Ref.{now}
-use Rattle.rules.proofs.Passes.{Swept, none-to-fill, first-filled, sweep-step-in-place, sweep-done, replicate-sweep}
+use Rattle.laws.proofs.Passes.{Swept, none-to-fill, first-filled, sweep-step-in-place, sweep-done, replicate-sweep}
 use borrow.Author.Needs.{needs}
 use Rattle.parts.proofs.fill.Statement.{statement}
 use Rattle.parts.proofs.fill.Tie as tie

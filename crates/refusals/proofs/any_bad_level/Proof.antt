@@ -6,7 +6,8 @@ use mathlib.Core.Bool.{_||_}
 use mathlib.Core.Path.{_≡_}
 use lib.ListN.{length, drop}
 use Rattle.rules.specs.Refusals.{isBadLevel}
-use Rattle.rules.proofs.Any.{anyPair, pair-begun, pair-next, pair-done}
+use Rattle.laws.specs.Any.{anyPair}
+use Rattle.laws.proofs.Any.{pair-begun, pair-next, pair-done}
 use borrow.Author.Needs.{needs}
 use Rattle.refusals.proofs.any_bad_level.Statement.{statement}
 use Rattle.refusals.proofs.any_bad_level.Tie as tie

@@ -5,7 +5,8 @@ use Prim.Native.Nat.{_-_, _≤_}
 use mathlib.Core.Bool.{_||_}
 use mathlib.Core.Path.{_≡_}
 use lib.ListN.{length, drop}
-use Rattle.rules.proofs.Any.{anyOf, any-begun, any-next, any-done}
+use Rattle.laws.specs.Any.{anyOf}
+use Rattle.laws.proofs.Any.{any-begun, any-next, any-done}
 use Rattle.refusals.specs.Faults.{isFault}
 use borrow.Author.Needs.{needs}
 use Rattle.refusals.proofs.any_fault.Statement.{statement}

@@ -2,7 +2,7 @@
 -- Assumes nothing.
 use mathlib.Core.Path.{sym, _∙_, ap}
 use borrow.Author.Tests.{lt-ltb, le-ltb}
-use Rattle.rules.proofs.Tests.{known}
+use Rattle.laws.proofs.Tests.{known}
 use Rattle.rules.specs.Refusals.{checksOfLines, checkOrderRoom}
 use Rattle.refusals.specs.Page.{checkOf}
 use Rattle.refusals.proofs.CheckLaws.{ends-none, ends-wrong, ends-right}

@@ -1,7 +1,7 @@
 -- `refusals::fault_at` meets its contract: each return is one way through the two tests on the class.
 -- Assumes nothing.
 use mathlib.Core.Path.{sym}
-use Rattle.rules.proofs.Tests.{known}
+use Rattle.laws.proofs.Tests.{known}
 use Rattle.refusals.proofs.CheckLaws.{fault-unknown, fault-early, fault-last, fault-none, more-left, none-left}
 use borrow.Author.Needs.{needs}
 use Rattle.refusals.proofs.fault_at.Statement.{statement}

@@ -1,7 +1,7 @@
 -- `refusals::first_bad_level` meets its contract: the walk finds it, or there is none.
 -- Assumes nothing.
 use mathlib.Core.Path.{sym}
-use Rattle.rules.proofs.Tests.{known}
+use Rattle.laws.proofs.Tests.{known}
 use Rattle.refusals.proofs.AnyLaws.{none-bad}
 use borrow.Author.Needs.{needs}
 use Rattle.refusals.proofs.first_bad_level.Statement.{statement}

@@ -4,7 +4,7 @@
 use mathlib.Core.Path.{sym}
 use native.Mathlib.Omega.{arith}
 use lib.Seq.{length-take-le}
-use Rattle.rules.proofs.Tests.{known}
+use Rattle.laws.proofs.Tests.{known}
 use Rattle.refusals.proofs.AnyLaws.{last-is-first}
 use borrow.Author.Needs.{needs}
 use Rattle.refusals.proofs.first_fault.Statement.{statement}

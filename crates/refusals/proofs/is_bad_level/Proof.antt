@@ -1,6 +1,6 @@
 -- `refusals::is_bad_level` meets its contract: a removed position and a kept one are asked different things.
 -- Assumes nothing.
-use Rattle.rules.proofs.Tests.{known}
+use Rattle.laws.proofs.Tests.{known}
 use Rattle.refusals.proofs.CheckLaws.{bad-removed, bad-kept}
 use borrow.Author.Needs.{needs}
 use Rattle.refusals.proofs.is_bad_level.Statement.{statement}

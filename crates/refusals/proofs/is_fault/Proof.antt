@@ -1,7 +1,7 @@
 -- `refusals::is_fault` meets its contract: the first test decides, or else the second.
 -- Assumes nothing.
 use mathlib.Core.Path.{_∙_}
-use Rattle.rules.proofs.Tests.{known}
+use Rattle.laws.proofs.Tests.{known}
 use Rattle.refusals.proofs.AnyLaws.{fault-first, fault-second}
 use borrow.Author.Needs.{needs}
 use Rattle.refusals.proofs.is_fault.Statement.{statement}

@@ -5,7 +5,7 @@ use mathlib.Core.Path.{_≡_, refl}
 use lib.ListN.{length, drop}
 use native.Mathlib.Omega.{arith}
 use Rattle.rules.specs.Refusals.{firstBadLevel}
-use Rattle.rules.proofs.Tests.{known}
+use Rattle.laws.proofs.Tests.{known}
 use Rattle.refusals.proofs.CheckLaws.{levels-step, levels-found, levels-done}
 use borrow.Author.Needs.{needs}
 use Rattle.refusals.proofs.search_bad_level.Statement.{statement}

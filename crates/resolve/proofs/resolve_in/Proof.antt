@@ -1,5 +1,5 @@
 -- `resolve::resolve_in` meets its contract: either way does. Assumes nothing.
-use Rattle.rules.proofs.Tests.{known}
+use Rattle.laws.proofs.Tests.{known}
 use borrow.Author.Needs.{needs}
 use Rattle.resolve.proofs.resolve_in.Statement.{statement}
 use Rattle.resolve.proofs.resolve_in.Tie as tie

@@ -3,7 +3,7 @@ use mathlib.Core.Path.{sym}
 use borrow.Author.Needs.{needs}
 use borrow.Author.Tests.{ne-eqb}
 use Rattle.weak.proofs.WeakLaws.{W4-apart}
-use Rattle.rules.proofs.Tests.{tests}
+use Rattle.laws.proofs.Tests.{tests}
 use Rattle.rules.specs.Weak.{changeW4}
 use Rattle.weak.proofs.change_w4.Statement.{statement}
 use Rattle.weak.proofs.change_w4.Tie as tie

@@ -5,7 +5,8 @@ use mathlib.Core.Path.{_≡_, refl, sym, _∙_}
 use lib.ListN.{length, drop}
 use borrow.Author.Tests.{eq-eqb, ne-eqb}
 use Rattle.rules.specs.Weak.{isTerminator}
-use Rattle.rules.proofs.Passes.{span, span-further, span-there, span-past}
+use Rattle.laws.specs.Stretches.{span}
+use Rattle.laws.proofs.Passes.{span-further, span-there, span-past}
 use borrow.Author.Needs.{needs}
 use Rattle.weak.proofs.terminators_end.Statement.{statement}
 use Rattle.weak.proofs.terminators_end.Tie as tie

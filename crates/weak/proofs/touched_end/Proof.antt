@@ -4,7 +4,7 @@ use native.Mathlib.Omega.{arith}
 use mathlib.Core.Bool.{false}
 use mathlib.Core.Path.{_≡_}
 use lib.ListN.{length, drop}
-use Rattle.rules.proofs.Any.{anyOf}
+use Rattle.laws.specs.Any.{anyOf}
 use Rattle.weak.specs.Steps.{isTouched}
 use Rattle.weak.proofs.TouchedLaws.{end-begun, end-next}
 use borrow.Author.Needs.{needs}

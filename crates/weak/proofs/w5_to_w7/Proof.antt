@@ -6,7 +6,8 @@ use mathlib.Core.Path.{_≡_, sym, ap, _∙_}
 use lib.ListN.{length, drop}
 use borrow.Author.Tests.{eq-eqb, ne-eqb}
 use Rattle.rules.specs.Weak.{isTerminator, changeW6}
-use Rattle.rules.proofs.Passes.{span, span-further, span-found}
+use Rattle.laws.specs.Stretches.{span}
+use Rattle.laws.proofs.Passes.{span-further, span-found}
 use Rattle.weak.specs.Steps.{changeW7}
 use Rattle.weak.proofs.LateLaws.{Late, late-begun, late-next, late-filled, late-done}
 use borrow.Author.Needs.{needs}

@@ -1,6 +1,6 @@
 -- `explicit::machine::least_greater_odd` meets its contract: each return is a case of the definition.
 -- Assumes nothing.
-use Rattle.rules.proofs.Tests.{tests}
+use Rattle.laws.proofs.Tests.{tests}
 use Rattle.rules.specs.Explicit.{leastGreaterOdd}
 use borrow.Author.Needs.{needs}
 use Rattle.explicit.proofs.machine.least_greater_odd.Statement.{statement}

@@ -1,6 +1,6 @@
 -- `explicit::machine::level_asked` meets its contract: each return is a case of the definition, by what its callee ensures.
 -- Assumes nothing.
-use Rattle.rules.proofs.Tests.{tests}
+use Rattle.laws.proofs.Tests.{tests}
 use Rattle.explicit.specs.Meaning.{levelAsked}
 use borrow.Author.Needs.{needs}
 use Rattle.explicit.proofs.machine.level_asked.Statement.{statement}

@@ -1,6 +1,6 @@
 -- `explicit::machine::override_asked` meets its contract: each return is a case of the definition.
 -- Assumes nothing.
-use Rattle.rules.proofs.Tests.{tests}
+use Rattle.laws.proofs.Tests.{tests}
 use Rattle.explicit.specs.Meaning.{overrideAsked}
 use borrow.Author.Needs.{needs}
 use Rattle.explicit.proofs.machine.override_asked.Statement.{statement}

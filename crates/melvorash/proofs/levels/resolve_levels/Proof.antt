@@ -3,7 +3,8 @@
 use mathlib.Core.Path.{sym, ap, _∙_}
 use Prim.Native.Nat.{ℕ}
 use denote.Ref.{now}
-use Rattle.rules.specs.Jobs.{over, levelsAnswer, resolveBuffer}
+use Rattle.laws.specs.Parts.{over}
+use Rattle.rules.specs.Jobs.{levelsAnswer, resolveBuffer}
 use Rattle.refusals.specs.Page.{checkOf}
 use Rattle.refusals.proofs.SoundLaws.{levels-sound}
 use Rattle.paragraph.proofs.BaseLaws.{baseOf-small}

@@ -2,7 +2,7 @@
 -- Assumes nothing.
 use Prim.Native.Nat.{_-_}
 use lib.ListN.{length}
-use Rattle.rules.proofs.Tests.{known}
+use Rattle.laws.proofs.Tests.{known}
 use Rattle.melvorash.proofs.CutLaws.{Walking, walk-begun, cut-none, cut-done, cut-long, cut-unknown, cut-end, cut-on}
 use borrow.Author.Needs.{needs}
 use Rattle.melvorash.proofs.paragraphs.cut.Statement.{statement}

@@ -1,7 +1,7 @@
 -- `resolve::scatter::put_back` meets its contract: the invariant is that positions from i on have their levels and those before stand as they were packed.
 -- Assumes nothing.
 use Rattle.resolve.proofs.ScatterLaws.{counted-down, Placing, placing-begun, place-removed, some-left, place-kept, placing-done}
-use Rattle.rules.proofs.Tests.{known}
+use Rattle.laws.proofs.Tests.{known}
 use borrow.Author.Needs.{needs}
 use Rattle.resolve.proofs.scatter.put_back.Statement.{statement}
 use Rattle.resolve.proofs.scatter.put_back.Tie as tie

@@ -1,6 +1,6 @@
 -- `weak::steps::row_behind` meets its contract: the test decides the row. Assumes nothing.
 use native.Mathlib.Omega.{arith}
-use Rattle.rules.proofs.Tests.{tests}
+use Rattle.laws.proofs.Tests.{tests}
 use borrow.Author.Needs.{needs}
 use Rattle.weak.proofs.steps.row_behind.Statement.{statement}
 use Rattle.weak.proofs.steps.row_behind.Tie as tie

@@ -7,11 +7,8 @@ use mathlib.Core.Bool.{Bool, true, false, _||_}
 use mathlib.Core.Path.{_≡_, refl, sym, ap, _∙_}
 use mathlib.Core.List.{List, [], _∷_}
 use lib.ListN.{length, getD, drop, drop-of-length-le}
-use Rattle.rules.proofs.Lists.{drop-next}
-
-unfoldable pub anyOf : (ℕ → Bool) → List ℕ → Bool
-anyOf test [] = false
-anyOf test (x ∷ xs) = test x || anyOf test xs
+use Rattle.laws.specs.Any.{anyOf, anyPair}
+use Rattle.laws.proofs.Lists.{drop-next}
 
 -- of two tests neither holds
 pub neither : (a b : Bool) → (a || b) ≡ false → (a ≡ false) × (b ≡ false)
@@ -48,11 +45,6 @@ any-done test xs i found past now =
     sym (or-false found) ∙ ap (λ (r : List ℕ). found || anyOf test r) (sym (drop-of-length-le xs past)) ∙ now
 
 -- ---- the same over two lists, place by place, up to where either ends
-unfoldable pub anyPair : (ℕ → ℕ → Bool) → List ℕ → List ℕ → Bool
-anyPair test [] ys = false
-anyPair test (x ∷ xs) [] = false
-anyPair test (x ∷ xs) (y ∷ ys) = test x y || anyPair test xs ys
-
 pub no-pair-first : (test : ℕ → ℕ → Bool) (x y : ℕ) (xs ys : List ℕ) → anyPair test (x ∷ xs) (y ∷ ys) ≡ false → (test x y ≡ false) × (anyPair test xs ys ≡ false)
 unfolding anyPair
 no-pair-first test x y xs ys none = neither (test x y) (anyPair test xs ys) none

@@ -4,8 +4,8 @@ use native.Mathlib.Omega.{arith}
 use mathlib.Core.Path.{_≡_, refl, ap, _∙_}
 use mathlib.Core.List.{List, [], _∷_, _++_}
 use lib.ListN.{length, getD}
-use Rattle.rules.specs.Choice.{upFrom}
-use Rattle.rules.proofs.Every.{Every}
+use Rattle.laws.specs.Choice.{upFrom}
+use Rattle.laws.proofs.Every.{Every}
 
 pub every-up : (P : ℕ → Type 0) (at count : ℕ) → ((x : ℕ) → at ≤ x → x < at + count → P x) → Every P (upFrom at count)
 unfolding upFrom

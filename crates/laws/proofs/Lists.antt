@@ -9,7 +9,7 @@ use mathlib.Core.List.{List, [], _∷_, _++_, append-assoc}
 use lib.ListN.{length, getD, take, drop, set, length-append, length-drop}
 use lib.Seq.{take-suc-set, drop-cons, drop-set-lt, take-suc, take-add, take-take, getD-take, getD-drop, getD-set-same, lt-length-set, length-take-le, take-at}
 use borrow.Rule.Slice.PartMut.{postOf, putMid}
-use Rattle.rules.specs.Line.{part}
+use Rattle.laws.specs.Parts.{part}
 
 -- what is written at i joins what was written before it
 pub take-set-next : (out : List ℕ) (i v : ℕ) (rest : List ℕ) → i < length out → take (i + 1) (set out i v) ++ rest ≡ take i out ++ (v ∷ rest)

@@ -12,9 +12,9 @@ use mathlib.Core.List.{List, [], _∷_, _++_, map, append-nil, append-assoc}
 use lib.ListN.{length, getD, take, drop, set, replicate, length-set, length-drop, length-replicate, drop-of-length-le}
 use lib.Seq.{take-all, drop-nil, getD-drop, drop-drop}
 use borrow.Rule.Slice.PartMut.{midOf, putMid, same-len-mid, mid-len}
-use Rattle.rules.specs.Choice.{if_then_else_, headOr}
-use Rattle.rules.specs.Weak.{afterStretch, stretches}
-use Rattle.rules.proofs.Lists.{take-set-next, drop-next, drop-set-next, take-put-end}
+use Rattle.laws.specs.Choice.{if_then_else_, headOr}
+use Rattle.laws.specs.Stretches.{afterStretch, stretches, span}
+use Rattle.laws.proofs.Lists.{take-set-next, drop-next, drop-set-next, take-put-end}
 
 -- what comes first of what is left is what stands at that place
 pub head-drop : (end : ℕ) (xs : List ℕ) (i : ℕ) → headOr end (drop i xs) ≡ getD xs i end
@@ -108,11 +108,6 @@ first-filled t [] some = absurd (some refl)
 first-filled t (x ∷ xs) some = record { within = omega arith; read = refl; written = refl; joined = refl }
 
 -- ---- Stretches: W5, N1 with N2
-
--- how many types that pass a test come first
-unfoldable pub span : (ℕ → Bool) → List ℕ → ℕ
-span test [] = 0
-span test (t ∷ ts) = if test t then suc (span test ts) else 0
 
 span-here : (test : ℕ → Bool) (t : ℕ) (ts : List ℕ) → test t ≡ true → span test (t ∷ ts) ≡ suc (span test ts)
 unfolding span

@@ -6,8 +6,8 @@ use mathlib.Core.Path.{_≡_, refl, sym, ap, _∙_}
 use mathlib.Core.List.{List, [], _∷_, _++_, append-nil, append-assoc}
 use lib.ListN.{length, getD, take, drop, set, length-set, take-append-drop}
 use lib.Seq.{drop-drop, getD-drop, length-take-le, take-add}
-use Rattle.rules.specs.Jobs.{over}
-use Rattle.rules.proofs.Lists.{take-set-next, drop-set-next}
+use Rattle.laws.specs.Parts.{over}
+use Rattle.laws.proofs.Lists.{take-set-next, drop-set-next}
 
 pub record Filled (whole out₀ out : List ℕ) (k : ℕ) (rest : List ℕ) : Type 0 where
   pub long : length out ≡ length out₀

@@ -5,8 +5,9 @@ use mathlib.Core.Bool.{Bool}
 use mathlib.Core.Path.{sym, subst}
 use mathlib.Core.List.{List, [], _∷_, _++_}
 use lib.ListN.{length, getD}
-use Rattle.rules.proofs.Passes.{by-test}
-use Rattle.rules.proofs.Settling.{insert, sort, goes-behind, stays-before, insert-nil, sort-nil, sort-first}
+use Rattle.laws.proofs.Passes.{by-test}
+use Rattle.laws.specs.Sorting.{insert, sort}
+use Rattle.laws.proofs.Settling.{goes-behind, stays-before, insert-nil, sort-nil, sort-first}
 
 abbrev pub Every : {A : Type 0} → (A → Type 0) → List A → Type 0
 Every P [] = Unit {0}

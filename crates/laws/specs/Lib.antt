@@ -1,0 +1,6 @@
+-- The words that definitions and contracts are written in. None of them knows a rule.
+pub mod Choice
+pub mod Parts
+pub mod Stretches
+pub mod Any
+pub mod Sorting
