@@ -11,11 +11,11 @@ use lib.Seq.{drop-length, length-take-le}
 use Rattle.laws.specs.Choice.{if_then_else_, upFrom}
 use Rattle.rules.specs.Classes.{isRemoved}
 use Rattle.laws.specs.Parts.{over}
-use Rattle.rules.specs.Line.{Item, items}
+use Rattle.rules.specs.Line.{Item, items, positionsOf, levelsOf}
 use Rattle.laws.specs.Any.{anyOf}
 use Rattle.laws.proofs.Any.{none-first}
 use Rattle.laws.proofs.Lists.{drop-next}
-use Rattle.line.specs.Gathered.{Gathered, positions, levelsOf}
+use Rattle.line.specs.Gathered.{Gathered}
 use Rattle.laws.proofs.Filling.{Filled, filled-begun, filled-reads, filled-next, filled-ended, filled-from, filled-more, filled-all}
 
 -- the item at a place of the line
@@ -50,14 +50,14 @@ pub record Gathering (from : ℕ) (cs ls₀ order₀ ls order : List ℕ) (i k :
   pub within : i ≤ length cs
   pub behind : k ≤ i
   pub packed : Filled (levelsOf (itemsFrom from cs ls₀ 0)) ls₀ ls k (levelsOf (itemsFrom from cs ls₀ i))
-  pub placed : Filled (positions (itemsFrom from cs ls₀ 0)) order₀ order k (positions (itemsFrom from cs ls₀ i))
+  pub placed : Filled (positionsOf (itemsFrom from cs ls₀ 0)) order₀ order k (positionsOf (itemsFrom from cs ls₀ i))
 
 pub begun : (from : ℕ) (cs ls order : List ℕ) → Gathering from cs ls order ls order 0 0
 begun from cs ls order = record {
   within = omega arith;
   behind = omega arith;
   packed = filled-begun (levelsOf (itemsFrom from cs ls 0)) ls;
-  placed = filled-begun (positions (itemsFrom from cs ls 0)) order;
+  placed = filled-begun (positionsOf (itemsFrom from cs ls 0)) order;
 }
 
 module _ (from : ℕ) (cs ls₀ order₀ ls order : List ℕ) (i k : ℕ) (lr : length cs ≤ length ls₀) (or : length cs ≤ length order₀) (class : ℕ) (ec : class ≡ getD cs i 0) where
@@ -68,7 +68,7 @@ module _ (from : ℕ) (cs ls₀ order₀ ls order : List ℕ) (i k : ℕ) (lr : 
         within = omega arith;
         behind = omega arith;
         packed = subst (λ (xs : List Item). Filled (levelsOf (itemsFrom from cs ls₀ 0)) ls₀ ls k (levelsOf xs)) same (g .packed);
-        placed = subst (λ (xs : List Item). Filled (positions (itemsFrom from cs ls₀ 0)) order₀ order k (positions xs)) same (g .placed);
+        placed = subst (λ (xs : List Item). Filled (positionsOf (itemsFrom from cs ls₀ 0)) order₀ order k (positionsOf xs)) same (g .placed);
       }
 
   pub taken-up : (level : ℕ) (ls′ order′ : List ℕ) → i < length cs → isRemoved class ≡ false → Gathering from cs ls₀ order₀ ls order i k → level ≡ getD ls i 0 → ls′ ≡ set ls k level → order′ ≡ set order k (from + i) → Gathering from cs ls₀ order₀ ls′ order′ (i + 1) (k + 1)
@@ -83,9 +83,9 @@ module _ (from : ℕ) (cs ls₀ order₀ ls order : List ℕ) (i k : ℕ) (lr : 
         packed = subst (λ (l : List ℕ). Filled (levelsOf (itemsFrom from cs ls₀ 0)) ls₀ l (k + 1) (levelsOf (itemsFrom from cs ls₀ (i + 1)))) (ap (set ls k) (sym reads) ∙ sym es)
             (filled-next (levelsOf (itemsFrom from cs ls₀ 0)) ls₀ ls k (getD ls₀ i 0) (levelsOf (itemsFrom from cs ls₀ (i + 1))) (omega arith)
             (subst (λ (xs : List Item). Filled (levelsOf (itemsFrom from cs ls₀ 0)) ls₀ ls k (levelsOf xs)) same (g .packed)));
-        placed = subst (λ (l : List ℕ). Filled (positions (itemsFrom from cs ls₀ 0)) order₀ l (k + 1) (positions (itemsFrom from cs ls₀ (i + 1)))) (sym eo)
-            (filled-next (positions (itemsFrom from cs ls₀ 0)) order₀ order k (from + i) (positions (itemsFrom from cs ls₀ (i + 1))) (omega arith)
-            (subst (λ (xs : List Item). Filled (positions (itemsFrom from cs ls₀ 0)) order₀ order k (positions xs)) same (g .placed)));
+        placed = subst (λ (l : List ℕ). Filled (positionsOf (itemsFrom from cs ls₀ 0)) order₀ l (k + 1) (positionsOf (itemsFrom from cs ls₀ (i + 1)))) (sym eo)
+            (filled-next (positionsOf (itemsFrom from cs ls₀ 0)) order₀ order k (from + i) (positionsOf (itemsFrom from cs ls₀ (i + 1))) (omega arith)
+            (subst (λ (xs : List Item). Filled (positionsOf (itemsFrom from cs ls₀ 0)) order₀ order k (positionsOf xs)) same (g .placed)));
       }
 
 pub ended : (from : ℕ) (cs ls₀ order₀ ls order : List ℕ) (i k : ℕ) → length cs ≤ length ls₀ → length cs ≤ length order₀ → length cs ≤ i → Gathering from cs ls₀ order₀ ls order i k → Gathered (items from cs ls₀) ls₀ order₀ k ls order
@@ -95,7 +95,7 @@ ended from cs ls₀ order₀ ls order i k lr or h g =
     let ll : length ls ≡ length ls₀ = g .packed .long in
     let lo : length order ≡ length order₀ = g .placed .long in
     let p = filled-ended (levelsOf (itemsFrom from cs ls₀ 0)) ls₀ ls k (omega arith) (subst (λ (xs : List Item). Filled (levelsOf (itemsFrom from cs ls₀ 0)) ls₀ ls k (levelsOf xs)) none (g .packed)) in
-    let q = filled-ended (positions (itemsFrom from cs ls₀ 0)) order₀ order k (omega arith) (subst (λ (xs : List Item). Filled (positions (itemsFrom from cs ls₀ 0)) order₀ order k (positions xs)) none (g .placed)) in
+    let q = filled-ended (positionsOf (itemsFrom from cs ls₀ 0)) order₀ order k (omega arith) (subst (λ (xs : List Item). Filled (positionsOf (itemsFrom from cs ls₀ 0)) order₀ order k (positionsOf xs)) none (g .placed)) in
     subst (λ (n : ℕ). Gathered (items n cs ls₀) ls₀ order₀ k ls order) start (record {
       count = p .1 ∙ length-map (itemsFrom from cs ls₀ 0) (λ (x : Item). x .level);
       packed = p .0;
@@ -136,13 +136,13 @@ pub number-ended : (from count : ℕ) (order₀ order : List ℕ) (i : ℕ) → 
 number-ended from count order₀ order i room h n = filled-all (n .1) (up-none from count i h) (omega (arith, n .0))
 
 -- where nothing is removed every position is kept, with its level
-all-positions : (at : ℕ) (cs ls : List ℕ) → anyOf isRemoved cs ≡ false → length cs ≤ length ls → positions (items at cs ls) ≡ upFrom at (length cs)
+all-positions : (at : ℕ) (cs ls : List ℕ) → anyOf isRemoved cs ≡ false → length cs ≤ length ls → positionsOf (items at cs ls) ≡ upFrom at (length cs)
 unfolding items upFrom
 all-positions at [] ls none h = refl
 all-positions at (c ∷ cs) [] none h = absurd (omega arith)
 all-positions at (c ∷ cs) (l ∷ ls) none h =
     let first = none-first isRemoved c cs none in
-    let rest : positions (items (suc at) cs ls) ≡ upFrom (suc at) (length cs) = all-positions (suc at) cs ls (first .1) (omega arith) in
+    let rest : positionsOf (items (suc at) cs ls) ≡ upFrom (suc at) (length cs) = all-positions (suc at) cs ls (first .1) (omega arith) in
     simp (first .0) (ap (λ (r : List ℕ). at ∷ r) rest)
 
 all-levels : (at : ℕ) (cs ls : List ℕ) → anyOf isRemoved cs ≡ false → length cs ≤ length ls → levelsOf (items at cs ls) ≡ take (length cs) ls

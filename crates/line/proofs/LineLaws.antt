@@ -14,15 +14,15 @@ use borrow.Author.Tests.{ltb-true, eqb-true}
 use Rattle.laws.specs.Choice.{if_then_else_}
 use Rattle.rules.specs.Classes.{isRemoved}
 use Rattle.laws.specs.Parts.{over, part}
-use Rattle.rules.specs.Line.{Item, L1, L2, items, pass, passes, highest, lowestOdd, lineLevels, lineOrder, allOrders}
+use Rattle.rules.specs.Line.{Item, L1, L2, items, pass, passes, highest, lowestOdd, lineLevels, lineOrder, allOrders, positionsOf, levelsOf}
 use Rattle.rules.specs.Refusals.{endsRiseTo}
 use Rattle.laws.proofs.Lists.{drop-next}
-use Rattle.line.specs.Gathered.{Gathered, positions, levelsOf, lineItems}
+use Rattle.line.specs.Gathered.{Gathered, lineItems}
 use Rattle.line.specs.Ordered.{Ordered}
-use Rattle.line.specs.Passes.{atLevels, passesBy}
+use Rattle.reversal.specs.Passes.{atLevels, passesBy}
 use Rattle.laws.proofs.Filling.{Filled, filled-begun, filled-part, filled-ended}
-use Rattle.line.proofs.ItemLaws.{passes-positions, highest-levels, lowestOdd-levels, L2-of-bytes}
-use Rattle.line.proofs.ResetLaws.{length-L1}
+use Rattle.reversal.proofs.ItemLaws.{passes-positions, highest-levels, lowestOdd-levels, L2-of-bytes}
+use Rattle.reset.proofs.ResetLaws.{length-L1}
 
 -- how many items there are
 
@@ -61,7 +61,7 @@ pub length-L2 : (xs : List Item) → length (L2 xs) ≡ length xs
 unfolding L2
 length-L2 xs = length-passes (highest xs) (lowestOdd (suc (highest xs)) xs) xs
 
-pub length-positions : (xs : List Item) → length (positions xs) ≡ length xs
+pub length-positions : (xs : List Item) → length (positionsOf xs) ≡ length xs
 length-positions xs = length-map xs (λ (x : Item). x .position)
 
 -- levels past the line's classes make no item
@@ -85,9 +85,6 @@ module _ (base from : ℕ) (cs ls work work₁ work₂ order order₂ : List ℕ
   pub count-within : r ≤ length cs
   count-within = let n : length (items from cs work₁) ≤ length cs = length-items from cs work₁ in omega (arith, gathered .count)
 
-  pub work-left : work₂ ≡ over (levelsOf (lineItems base from cs ls)) (over (L1 base cs ls) work)
-  work-left = line-gathered .packed ∙ ap (over (levelsOf (lineItems base from cs ls))) reset
-
   levels-length : length (levelsOf (lineItems base from cs ls)) ≡ r
   levels-length = length-map (lineItems base from cs ls) (λ (x : Item). x .level) ∙ sym (line-gathered .count)
 
@@ -97,26 +94,26 @@ module _ (base from : ℕ) (cs ls work work₁ work₂ order order₂ : List ℕ
       ∙ take-at (levelsOf (lineItems base from cs ls)) (drop (length (levelsOf (lineItems base from cs ls))) work₁) r levels-length
 
   -- the highest level, the lowest odd one and the passes between them, over the levels of the kept positions
-  pub line-ordered : (top lowest : ℕ) (order₃ : List ℕ) → top < 256 → top ≡ highest (atLevels (take r work₂)) → lowest ≡ lowestOdd 255 (atLevels (take r work₂)) → order₃ ≡ passesBy top lowest (take r work₂) order₂ → Ordered (positions (L2 (lineItems base from cs ls))) order r order₃
+  pub line-ordered : (top lowest : ℕ) (order₃ : List ℕ) → top < 256 → top ≡ highest (atLevels (take r work₂)) → lowest ≡ lowestOdd 255 (atLevels (take r work₂)) → order₃ ≡ passesBy top lowest (take r work₂) order₂ → Ordered (positionsOf (L2 (lineItems base from cs ls))) order r order₃
   line-ordered top lowest order₃ byte et el eo =
       let xs : List Item = lineItems base from cs ls in
       let top-is : top ≡ highest xs = et ∙ ap (λ (l : List ℕ). highest (atLevels l)) line-levels ∙ highest-levels xs in
       let lowest-is : lowest ≡ lowestOdd 255 xs = el ∙ ap (λ (l : List ℕ). lowestOdd 255 (atLevels l)) line-levels ∙ lowestOdd-levels 255 xs in
-      let long : length (positions (L2 xs)) ≡ length (positions xs) = length-positions (L2 xs) ∙ length-L2 xs ∙ sym (length-positions xs) in
+      let long : length (positionsOf (L2 xs)) ≡ length (positionsOf xs) = length-positions (L2 xs) ∙ length-L2 xs ∙ sym (length-positions xs) in
       record {
         count = line-gathered .count ∙ sym (length-positions (L2 xs) ∙ length-L2 xs);
         order = eo ∙ (λ j. passesBy (top-is j) (lowest-is j) (line-levels j) (line-gathered .placed j))
-            ∙ passes-positions (highest xs) (lowestOdd 255 xs) xs (drop (length (positions xs)) order)
-            ∙ ap (λ (ys : List Item). positions ys ++ drop (length (positions xs)) order) (L2-of-bytes xs (subst (λ (n : ℕ). n < 256) top-is byte))
-            ∙ ap (λ (n : ℕ). positions (L2 xs) ++ drop n order) (sym long);
+            ∙ passes-positions (highest xs) (lowestOdd 255 xs) xs (drop (length (positionsOf xs)) order)
+            ∙ ap (λ (ys : List Item). positionsOf ys ++ drop (length (positionsOf xs)) order) (L2-of-bytes xs (subst (λ (n : ℕ). n < 256) top-is byte))
+            ∙ ap (λ (n : ℕ). positionsOf (L2 xs) ++ drop n order) (sym long);
       }
 
 -- a line of a paragraph is the line with its own parts of the classes and levels
-pub of-parts : (base from to : ℕ) (cs ls : List ℕ) → positions (L2 (lineItems base from (take (to - from) (drop from cs)) (take (to - from) (drop from ls)))) ≡ lineOrder base cs ls from to
+pub of-parts : (base from to : ℕ) (cs ls : List ℕ) → positionsOf (L2 (lineItems base from (take (to - from) (drop from cs)) (take (to - from) (drop from ls)))) ≡ lineOrder base cs ls from to
 unfolding lineOrder lineLevels part
 of-parts base from to cs ls = refl
 
-pub ordered-of-parts : (base from to : ℕ) (cs ls entry : List ℕ) (r : ℕ) (exit : List ℕ) → Ordered (positions (L2 (lineItems base from (take (to - from) (drop from cs)) (take (to - from) (drop from ls))))) entry r exit → Ordered (lineOrder base cs ls from to) entry r exit
+pub ordered-of-parts : (base from to : ℕ) (cs ls entry : List ℕ) (r : ℕ) (exit : List ℕ) → Ordered (positionsOf (L2 (lineItems base from (take (to - from) (drop from cs)) (take (to - from) (drop from ls))))) entry r exit → Ordered (lineOrder base cs ls from to) entry r exit
 ordered-of-parts base from to cs ls entry r exit o = subst (λ (l : List ℕ). Ordered l entry r exit) (of-parts base from to cs ls) o
 
 pub length-part : (from to : ℕ) (cs : List ℕ) → to ≤ length cs → length (take (to - from) (drop from cs)) ≡ to - from
@@ -127,9 +124,9 @@ length-lineOrder base cs ls from to h =
     let cs′ : List ℕ = take (to - from) (drop from cs) in
     let xs : List Item = lineItems base from cs′ (take (to - from) (drop from ls)) in
     let n : length xs ≤ length cs′ = length-items from cs′ (L1 base cs′ (take (to - from) (drop from ls))) in
-    let m : length (positions (L2 xs)) ≡ length xs = length-positions (L2 xs) ∙ length-L2 xs in
+    let m : length (positionsOf (L2 xs)) ≡ length xs = length-positions (L2 xs) ∙ length-L2 xs in
     let k : length cs′ ≡ to - from = length-part from to cs h in
-    let l : length (lineOrder base cs ls from to) ≡ length (positions (L2 xs)) = ap length (sym (of-parts base from to cs ls)) in
+    let l : length (lineOrder base cs ls from to) ≡ length (positionsOf (L2 xs)) = ap length (sym (of-parts base from to cs ls)) in
     omega arith
 
 -- all lines: the next end lies past the last one and within the paragraph

@@ -1,16 +1,10 @@
 -- The items of a line laid out in two buffers: positions in the order, levels in the work buffer.
 use Prim.Native.Nat.{ℕ}
 use mathlib.Core.Path.{_≡_}
-use mathlib.Core.List.{List, map}
+use mathlib.Core.List.{List}
 use lib.ListN.{length}
 use Rattle.laws.specs.Parts.{over}
-use Rattle.rules.specs.Line.{Item, L1, items}
-
-abbrev pub positions : List Item → List ℕ
-positions xs = map (λ (x : Item). x .position) xs
-
-abbrev pub levelsOf : List Item → List ℕ
-levelsOf xs = map (λ (x : Item). x .level) xs
+use Rattle.rules.specs.Line.{Item, L1, items, positionsOf, levelsOf}
 
 -- the items of a line that begins at a position, from its own classes and levels and the base: its reset, then what is kept
 abbrev pub lineItems : ℕ → ℕ → List ℕ → List ℕ → List Item
@@ -20,4 +14,4 @@ lineItems base from cs ls = items from cs (L1 base cs ls)
 pub record Gathered (xs : List Item) (levels order : List ℕ) (r : ℕ) (levels′ order′ : List ℕ) : Type 0 where
   pub count : r ≡ length xs
   pub packed : levels′ ≡ over (levelsOf xs) levels
-  pub placed : order′ ≡ over (positions xs) order
+  pub placed : order′ ≡ over (positionsOf xs) order

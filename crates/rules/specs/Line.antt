@@ -1,9 +1,8 @@
 -- The order of one line: rules L1 and L2.
-use Prim.Native.Nat.{ℕ, zero, suc, _-_, max, min}
+use Prim.Native.Nat.{ℕ, zero, suc, max, min}
 use mathlib.Core.Bool.{Bool, true, _||_, _&&_}
 use mathlib.Core.List.{List, [], _∷_, _++_, map}
 use lib.Dec.{leb}
-use lib.ListN.{take, drop}
 use Rattle.laws.specs.Parts.{part}
 use Rattle.laws.specs.Choice.{if_then_else_, isOdd}
 use Rattle.rules.specs.Classes.{isRemoved, isSeparator, isBlank}
@@ -13,17 +12,26 @@ unfoldable pub blankAhead : List ℕ → Bool
 blankAhead [] = true
 blankAhead (c ∷ cs) = if isRemoved c || isBlank c then blankAhead cs else isSeparator c
 
+-- a level after the reset, given whether nothing but blanks comes between its position and a separator or the line's end
+abbrev pub resetLevel : ℕ → ℕ → ℕ → Bool → ℕ
+resetLevel base c l ahead = if isSeparator c || (isBlank c && ahead) then base else l
+
 -- L1: by original classes, separators and the blanks before a separator or the line's end go back to the base level
 unfoldable pub L1 : ℕ → List ℕ → List ℕ → List ℕ
 L1 base [] ls = []
 L1 base (c ∷ cs) [] = []
-L1 base (c ∷ cs) (l ∷ ls) =
-    (if isSeparator c || (isBlank c && blankAhead cs) then base else l) ∷ L1 base cs ls
+L1 base (c ∷ cs) (l ∷ ls) = resetLevel base c l (blankAhead cs) ∷ L1 base cs ls
 
 -- what is ordered: a position in memory, with its level on the line
 pub record Item : Type 0 where
   pub position : ℕ
   pub level : ℕ
+
+abbrev pub positionsOf : List Item → List ℕ
+positionsOf xs = map (λ (x : Item). x .position) xs
+
+abbrev pub levelsOf : List Item → List ℕ
+levelsOf xs = map (λ (x : Item). x .level) xs
 
 -- the kept positions of a line in memory order, the line's first position being `at`
 unfoldable pub items : ℕ → List ℕ → List ℕ → List Item
@@ -65,7 +73,7 @@ lineLevels base cs ls from to = L1 base (part from to cs) (part from to ls)
 -- the order of the line from one position up to, not including, another: positions from left to right
 unfoldable pub lineOrder : ℕ → List ℕ → List ℕ → ℕ → ℕ → List ℕ
 lineOrder base cs ls from to =
-    map (λ (x : Item). x .position) (L2 (items from (part from to cs) (lineLevels base cs ls from to)))
+    positionsOf (L2 (items from (part from to cs) (lineLevels base cs ls from to)))
 
 -- the orders of the lines with the given ends, each following the last one's
 unfoldable pub allOrders : ℕ → List ℕ → List ℕ → ℕ → List ℕ → List ℕ

@@ -17,8 +17,8 @@ abbrev μ-loop : tie.MeasureT-loop
 loop-holds : tie.Need-loop-holds Inv-loop μ-loop
 loop-holds c = begun _ _ _ _
 
-class-at-requires : tie.Need-class-at-requires Inv-loop μ-loop
-class-at-requires c κs = search needs
+byte-at-requires : tie.Need-byte-at-requires Inv-loop μ-loop
+byte-at-requires c κs = search needs
 
 is-removed-requires : tie.Need-is-removed-requires Inv-loop μ-loop
 is-removed-requires c κs = search needs
@@ -32,11 +32,11 @@ loop-less c = search needs
 loop-again : tie.Need-loop-again Inv-loop μ-loop
 loop-again c =
     let in-loop = c .before .before .before in
-    passed-over _ _ _ _ _ _ _ _ (search needs) (search needs) _ (c .before .before .class-at .ensures) (in-loop .loop-test .taken)
+    passed-over _ _ _ _ _ _ _ _ (search needs) (search needs) _ (c .before .before .byte-at .ensures) (in-loop .loop-test .taken)
     (sym (c .before .is-removed .ensures) ∙ c .if1 .taken) (in-loop .before .loop .inv)
 
-level-at-requires : tie.Need-level-at-requires Inv-loop μ-loop
-level-at-requires c κs = search needs
+byte-at-requires-2 : tie.Need-byte-at-requires-2 Inv-loop μ-loop
+byte-at-requires-2 c κs = search needs
 
 pack-requires : tie.Need-pack-requires Inv-loop μ-loop
 pack-requires c κs = search needs
@@ -62,9 +62,9 @@ loop-again-2 c =
     let pack = put .before .before .before .before in
     let tested = pack .before .before .before .before in
     let in-loop = tested .before .before .before in
-    taken-up _ _ _ _ _ _ _ _ (search needs) (search needs) _ (tested .before .before .class-at .ensures) _ _ _ (in-loop .loop-test .taken)
+    taken-up _ _ _ _ _ _ _ _ (search needs) (search needs) _ (tested .before .before .byte-at .ensures) _ _ _ (in-loop .loop-test .taken)
     (sym (tested .before .is-removed .ensures) ∙ tested .if1 .left) (in-loop .before .loop .inv)
-    (pack .before .before .level-at .ensures) (pack .pack .ensures) (put .put .ensures)
+    (pack .before .before .byte-at2 .ensures) (pack .pack .ensures) (put .put .ensures)
 
 same-length : tie.Need-same-length Inv-loop μ-loop
 same-length c = search needs
@@ -82,12 +82,12 @@ gather-kept-spec =
     Inv-loop
     μ-loop
     loop-holds
-    class-at-requires
+    byte-at-requires
     is-removed-requires
     add-i
     loop-less
     loop-again
-    level-at-requires
+    byte-at-requires-2
     pack-requires
     add-t23
     put-requires

@@ -39,7 +39,7 @@ returns : tie.Need-returns
 returns c =
     let called = c .before .before .before in
     let args = called .before .before .before .before .before .before .before .before .before .args in
-    ordered-of-parts (args .base) (args .from) (args .to) (args .classes .now) (args .levels .now) _ _ _ (called .order-with .ensures .0)
+    ordered-of-parts (args .base) (args .from) (args .to) (args .classes .now) (args .levels .now) _ _ _ (called .order-with .ensures)
 
 slice-aggregate-order-with-2 : tie.Need-slice-aggregate-order-with-2
 slice-aggregate-order-with-2 c = search needs
@@ -54,7 +54,7 @@ returns-2 : tie.Need-returns-2
 returns-2 c =
     let called = c .before .before .before in
     let args = called .before .before .before .before .before .before .before .before .before .args in
-    ordered-of-parts (args .base) (args .from) (args .to) (args .classes .now) (args .levels .now) _ _ _ (called .order-with2 .ensures .0)
+    ordered-of-parts (args .base) (args .from) (args .to) (args .classes .now) (args .levels .now) _ _ _ (called .order-with2 .ensures)
 
 pub order-line-spec : {M : Type 1} → statement M
 order-line-spec =

@@ -5,8 +5,8 @@ use Prim.Native.Nat.{_≤_}
 use mathlib.Core.Path.{sym}
 use lib.ListN.{length}
 use lib.Seq.{length-take-le}
-use Rattle.line.proofs.PassLaws.{none-below}
-use Rattle.line.proofs.LineLaws.{count-within, line-ordered, work-left}
+use Rattle.reversal.proofs.PassLaws.{none-below}
+use Rattle.line.proofs.LineLaws.{count-within, line-ordered}
 use borrow.Author.Needs.{needs}
 use Rattle.line.proofs.order_with.Statement.{statement}
 use Rattle.line.proofs.order_with.Tie as tie
@@ -52,11 +52,9 @@ returns c =
     let g = highest .before .before .before .before .before .before in
     let r = g .before .before .before .before .before in
     let start = r .before .before .before .before .before .before in
-    let args = start .args in (
-      line-ordered (args .base) (args .from) (args .classes .now) (args .levels .now) (args .work .now) _ _ _ _ _ (start .pre .0) (r .reset .ensures) (g .gather .ensures)
-          _ _ _ (search needs) (highest .highest-level .ensures) (c .before .lowest-odd-level .ensures) (none-below _ _ _ _ (c .if1 .taken)),
-      work-left (args .base) (args .from) (args .classes .now) (args .levels .now) (args .work .now) _ _ _ _ _ (start .pre .0) (r .reset .ensures) (g .gather .ensures),
-    )
+    let args = start .args in
+    line-ordered (args .base) (args .from) (args .classes .now) (args .levels .now) (args .work .now) _ _ _ _ _ (start .pre .0) (r .reset .ensures) (g .gather .ensures)
+    _ _ _ (search needs) (highest .highest-level .ensures) (c .before .lowest-odd-level .ensures) (none-below _ _ _ _ (c .if1 .taken))
 
 reversal-pass-requires : tie.Need-reversal-pass-requires
 reversal-pass-requires c κs =
@@ -79,11 +77,9 @@ returns-2 c =
     let g = highest .before .before .before .before .before .before in
     let r = g .before .before .before .before .before in
     let start = r .before .before .before .before .before .before in
-    let args = start .args in (
-      line-ordered (args .base) (args .from) (args .classes .now) (args .levels .now) (args .work .now) _ _ _ _ _ (start .pre .0) (r .reset .ensures) (g .gather .ensures)
-          _ _ _ (search needs) (highest .highest-level .ensures) (lowest .lowest-odd-level .ensures) (passed .reversal-pass .ensures),
-      work-left (args .base) (args .from) (args .classes .now) (args .levels .now) (args .work .now) _ _ _ _ _ (start .pre .0) (r .reset .ensures) (g .gather .ensures),
-    )
+    let args = start .args in
+    line-ordered (args .base) (args .from) (args .classes .now) (args .levels .now) (args .work .now) _ _ _ _ _ (start .pre .0) (r .reset .ensures) (g .gather .ensures)
+    _ _ _ (search needs) (highest .highest-level .ensures) (lowest .lowest-odd-level .ensures) (passed .reversal-pass .ensures)
 
 pub order-with-spec : {M : Type 1} → statement M
 order-with-spec =

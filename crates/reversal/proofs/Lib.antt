@@ -1,0 +1,6 @@
+-- Laws that the proofs of this crate cite.
+pub mod ScanLaws
+pub mod BlockLaws
+pub mod TurnLaws
+pub mod PassLaws
+pub mod ItemLaws

@@ -1,0 +1,2 @@
+-- What the passes of this crate meet.
+pub mod Passes
