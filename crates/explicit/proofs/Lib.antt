@@ -1,5 +1,4 @@
 -- The laws that the answers of this crate cite, and those of the phase that later crates want.
-pub mod MachineLaws
 pub mod ExplicitLaws
 pub mod WalkLaws
 pub mod Determined

@@ -10,8 +10,9 @@ use Rattle.laws.proofs.Lists.{drop-next}
 use Rattle.laws.proofs.Any.{neither}
 use Rattle.rules.specs.Classes.{LRE, LRO, RLE, RLO, PDF, BN, isOpening, isRemoved}
 use Rattle.rules.specs.Explicit.{State, verdict, after, step, kept}
-use Rattle.explicit.specs.declared.machine.Machine.{Machine}
-use Rattle.explicit.specs.Meaning.{Sound, counts, Stands}
+use Rattle.machine.specs.declared.Machine.{Machine}
+use Rattle.machine.specs.Sound.{Sound}
+use Rattle.machine.specs.Sound.{counts, Stands}
 use Rattle.explicit.proofs.ExplicitLaws.{kept-none, kept-removed, kept-kept}
 use Rattle.laws.proofs.Filling.{Filled, filled-from, filled-more}
 

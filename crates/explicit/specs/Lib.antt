@@ -1,3 +1,2 @@
--- What the struct and the enum of src/machine.rt stand for in the rules' own words, and what the walks promise.
-pub mod Meaning
+-- What the walks promise.
 pub mod Promises

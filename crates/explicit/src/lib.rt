@@ -6,9 +6,6 @@ ghost use lib.ListN.{length};
 ghost use Rattle.rules.specs.Explicit.{X1, explicitLevels};
 ghost use Rattle.laws.specs.Parts.{over};
 ghost use Rattle.explicit.specs.Promises.{Gathered};
-
-mod machine;
-
 use machine::Machine;
 
 // A level for every position, 255 where it is removed: what the job Explicit writes.

@@ -15,7 +15,7 @@ use Rattle.rules.specs.Line.{Item, items, positionsOf, levelsOf}
 use Rattle.laws.specs.Any.{anyOf}
 use Rattle.laws.proofs.Any.{none-first}
 use Rattle.laws.proofs.Lists.{drop-next}
-use Rattle.line.specs.Gathered.{Gathered}
+use Rattle.line.specs.LaidOut.{LaidOut}
 use Rattle.laws.proofs.Filling.{Filled, filled-begun, filled-reads, filled-next, filled-ended, filled-from, filled-more, filled-all}
 
 -- the item at a place of the line
@@ -88,7 +88,7 @@ module _ (from : ℕ) (cs ls₀ order₀ ls order : List ℕ) (i k : ℕ) (lr : 
             (subst (λ (xs : List Item). Filled (positionsOf (itemsFrom from cs ls₀ 0)) order₀ order k (positionsOf xs)) same (g .placed)));
       }
 
-pub ended : (from : ℕ) (cs ls₀ order₀ ls order : List ℕ) (i k : ℕ) → length cs ≤ length ls₀ → length cs ≤ length order₀ → length cs ≤ i → Gathering from cs ls₀ order₀ ls order i k → Gathered (items from cs ls₀) ls₀ order₀ k ls order
+pub ended : (from : ℕ) (cs ls₀ order₀ ls order : List ℕ) (i k : ℕ) → length cs ≤ length ls₀ → length cs ≤ length order₀ → length cs ≤ i → Gathering from cs ls₀ order₀ ls order i k → LaidOut (items from cs ls₀) ls₀ order₀ k ls order
 ended from cs ls₀ order₀ ls order i k lr or h g =
     let none = items-none from cs ls₀ i h (g .within) in
     let start : from + 0 ≡ from = omega arith in
@@ -96,7 +96,7 @@ ended from cs ls₀ order₀ ls order i k lr or h g =
     let lo : length order ≡ length order₀ = g .placed .long in
     let p = filled-ended (levelsOf (itemsFrom from cs ls₀ 0)) ls₀ ls k (omega arith) (subst (λ (xs : List Item). Filled (levelsOf (itemsFrom from cs ls₀ 0)) ls₀ ls k (levelsOf xs)) none (g .packed)) in
     let q = filled-ended (positionsOf (itemsFrom from cs ls₀ 0)) order₀ order k (omega arith) (subst (λ (xs : List Item). Filled (positionsOf (itemsFrom from cs ls₀ 0)) order₀ order k (positionsOf xs)) none (g .placed)) in
-    subst (λ (n : ℕ). Gathered (items n cs ls₀) ls₀ order₀ k ls order) start (record {
+    subst (λ (n : ℕ). LaidOut (items n cs ls₀) ls₀ order₀ k ls order) start (record {
       count = p .1 ∙ length-map (itemsFrom from cs ls₀ 0) (λ (x : Item). x .level);
       packed = p .0;
       placed = q .0;
@@ -154,7 +154,7 @@ all-levels at (c ∷ cs) (l ∷ ls) none h =
     let rest : levelsOf (items (suc at) cs ls) ≡ take (length cs) ls = all-levels (suc at) cs ls (first .1) (omega arith) in
     simp (first .0) (ap (λ (r : List ℕ). l ∷ r) rest)
 
-pub all-gathered : (from : ℕ) (cs ls order order′ : List ℕ) → length cs ≤ length ls → anyOf isRemoved cs ≡ false → order′ ≡ over (upFrom from (length cs)) order → Gathered (items from cs ls) ls order (length cs) ls order′
+pub all-gathered : (from : ℕ) (cs ls order order′ : List ℕ) → length cs ≤ length ls → anyOf isRemoved cs ≡ false → order′ ≡ over (upFrom from (length cs)) order → LaidOut (items from cs ls) ls order (length cs) ls order′
 all-gathered from cs ls order order′ h none e =
     let levels : levelsOf (items from cs ls) ≡ take (length cs) ls = all-levels from cs ls none h in
     let long : length (take (length cs) ls) ≡ length cs = length-take-le (length cs) ls h in

@@ -17,12 +17,13 @@ use Rattle.laws.specs.Parts.{over, part}
 use Rattle.rules.specs.Line.{Item, L1, L2, items, pass, passes, highest, lowestOdd, lineLevels, lineOrder, allOrders, positionsOf, levelsOf}
 use Rattle.rules.specs.Refusals.{endsRiseTo}
 use Rattle.laws.proofs.Lists.{drop-next}
-use Rattle.line.specs.Gathered.{Gathered, lineItems}
+use Rattle.line.specs.LaidOut.{LaidOut, lineItems}
 use Rattle.line.specs.Ordered.{Ordered}
 use Rattle.reversal.specs.Passes.{atLevels, passesBy}
 use Rattle.laws.proofs.Filling.{Filled, filled-begun, filled-part, filled-ended}
 use Rattle.reversal.proofs.ItemLaws.{passes-positions, highest-levels, lowestOdd-levels, L2-of-bytes}
-use Rattle.reset.proofs.ResetLaws.{length-L1}
+use Rattle.rules.proofs.LineLaws.{length-L1}
+use Rattle.rules.proofs.EndLaws.{next-rises, rises-within}
 
 -- how many items there are
 
@@ -75,12 +76,12 @@ items-over at (c ∷ cs) [] more h = absurd (omega arith)
 items-over at (c ∷ cs) (l ∷ ls) more h =
     items-same (isRemoved c) (record { position = at; level = l }) (items (suc at) cs (ls ++ more)) (items (suc at) cs ls) (items-over (suc at) cs ls more (omega arith))
 
-module _ (base from : ℕ) (cs ls work work₁ work₂ order order₂ : List ℕ) (r : ℕ) (same : length ls ≡ length cs) (reset : work₁ ≡ over (L1 base cs ls) work) (gathered : Gathered (items from cs work₁) work₁ order r work₂ order₂) where
+module _ (base from : ℕ) (cs ls work work₁ work₂ order order₂ : List ℕ) (r : ℕ) (same : length ls ≡ length cs) (reset : work₁ ≡ over (L1 base cs ls) work) (gathered : LaidOut (items from cs work₁) work₁ order r work₂ order₂) where
   line-items : items from cs work₁ ≡ lineItems base from cs ls
   line-items = ap (items from cs) reset ∙ items-over from cs (L1 base cs ls) (drop (length (L1 base cs ls)) work) (length-L1 base cs ls same)
 
-  line-gathered : Gathered (lineItems base from cs ls) work₁ order r work₂ order₂
-  line-gathered = subst (λ (xs : List Item). Gathered xs work₁ order r work₂ order₂) line-items gathered
+  line-gathered : LaidOut (lineItems base from cs ls) work₁ order r work₂ order₂
+  line-gathered = subst (λ (xs : List Item). LaidOut xs work₁ order r work₂ order₂) line-items gathered
 
   pub count-within : r ≤ length cs
   count-within = let n : length (items from cs work₁) ≤ length cs = length-items from cs work₁ in omega (arith, gathered .count)
@@ -129,24 +130,6 @@ length-lineOrder base cs ls from to h =
     let l : length (lineOrder base cs ls from to) ≡ length (positionsOf (L2 xs)) = ap length (sym (of-parts base from to cs ls)) in
     omega arith
 
--- all lines: the next end lies past the last one and within the paragraph
-module _ (from to : ℕ) (ends : List ℕ) (last : ℕ) where
-  rises-if : (b : Bool) → ltb from to ≡ b → (if b then endsRiseTo to ends last else false) ≡ true → (from < to) × (endsRiseTo to ends last ≡ true)
-  rises-if true e r = (ltb-true from to e, r)
-  rises-if false e r = let z : _≡_ {A = ℕ} 0 1 = cc in absurd (omega arith)
-
-  rises-on : endsRiseTo from (to ∷ ends) last ≡ true → (from < to) × (endsRiseTo to ends last ≡ true)
-  unfolding endsRiseTo
-  rises-on r = rises-if (ltb from to) refl r
-
-rises-within : (from : ℕ) (ends : List ℕ) (last : ℕ) → endsRiseTo from ends last ≡ true → from ≤ last
-unfolding endsRiseTo
-rises-within from [] last r = let e : from ≡ last = eqb-true from last r in omega arith
-rises-within from (to ∷ ends) last r =
-    let on = rises-on from to ends last r in
-    let h : to ≤ last = rises-within to ends last (on .1) in
-    omega arith
-
 -- the lines before number i are ordered, `from` being where line i begins
 pub record Lines (base : ℕ) (cs ls ends order₀ order : List ℕ) (from count i : ℕ) : Type 0 where
   pub within : i ≤ length ends
@@ -169,12 +152,12 @@ module _ (base : ℕ) (cs ls ends order₀ order : List ℕ) (from count i : ℕ
     ends-next : drop i ends ≡ to ∷ drop (i + 1) ends
     ends-next = drop-next ends i h ∙ ap (λ (n : ℕ). n ∷ drop (i + 1) ends) (sym end)
 
-    next-rises : (from < to) × (endsRiseTo to (drop (i + 1) ends) (length cs) ≡ true)
-    next-rises = rises-on from to (drop (i + 1) ends) (length cs) (subst (λ (es : List ℕ). endsRiseTo from es (length cs) ≡ true) ends-next (l .rises))
+    rises-next : (from < to) × (endsRiseTo to (drop (i + 1) ends) (length cs) ≡ true)
+    rises-next = next-rises from to (drop (i + 1) ends) (length cs) (subst (λ (es : List ℕ). endsRiseTo from es (length cs) ≡ true) ends-next (l .rises))
 
     -- the next line, where it begins and ends
     pub next-line : (from < to) × (to ≤ length cs)
-    next-line = (next-rises .0, rises-within to (drop (i + 1) ends) (length cs) (next-rises .1))
+    next-line = (rises-next .0, rises-within to (drop (i + 1) ends) (length cs) (rises-next .1))
 
     orders-next : allOrders base cs ls from (drop i ends) ≡ lineOrder base cs ls from to ++ allOrders base cs ls to (drop (i + 1) ends)
     unfolding allOrders
@@ -220,7 +203,7 @@ module _ (base : ℕ) (cs ls ends order₀ order : List ℕ) (from count i : ℕ
           within = omega arith;
           behind = within;
           inside = w .1;
-          rises = next-rises .1;
+          rises = rises-next .1;
           filled = filled-part (allOrders base cs ls 0 ends) order₀ order count order′ line (allOrders base cs ls to (drop (i + 1) ends)) (count + r)
               (ap length order-is ∙ length-append (take count order ++ line) (drop (count + r) order) ∙ (λ j. front j + length-drop (count + r) order j) ∙ omega arith)
               (ap (take (count + r)) order-is ∙ take-at (take count order ++ line) (drop (count + r) order) (count + r) front)

@@ -7,7 +7,7 @@ ghost use Rattle.laws.specs.Choice.{upFrom};
 ghost use Rattle.laws.specs.Parts.{over};
 ghost use Rattle.rules.specs.Line.{L2, items, positionsOf, lineOrder, allOrders};
 ghost use Rattle.rules.specs.Refusals.{longestParagraph, endsRiseTo};
-ghost use Rattle.line.specs.Gathered.{Gathered, lineItems};
+ghost use Rattle.line.specs.LaidOut.{LaidOut, lineItems};
 ghost use Rattle.line.specs.Ordered.{Ordered};
 use places::Place;
 use places::Position;
@@ -17,7 +17,7 @@ fn gather_kept(classes: &[u8], from: Position, levels: &mut [u8], order: &mut [u
     requires { ⌜ length (now classes) ≤ length (now levels) ⌝ }
     requires { ⌜ length (now classes) ≤ length (now order) ⌝ }
     requires { ⌜ from .0 + length (now classes) ≤ 65536 ⌝ }
-    ensures { λ r. ⌜ Gathered (items (from .0) (now (classes .entry)) (now (levels .entry))) (now (levels .entry)) (now (order .entry)) r (now (levels .exit)) (now (order .exit)) ⌝ }
+    ensures { λ r. ⌜ LaidOut (items (from .0) (now (classes .entry)) (now (levels .entry))) (now (levels .entry)) (now (order .entry)) r (now (levels .exit)) (now (order .exit)) ⌝ }
 {
     let start = from.0;
     let mut i = 0;
@@ -56,7 +56,7 @@ fn gather(classes: &[u8], from: Position, levels: &mut [u8], order: &mut [u16]) 
     requires { ⌜ length (now classes) ≤ length (now levels) ⌝ }
     requires { ⌜ length (now classes) ≤ length (now order) ⌝ }
     requires { ⌜ from .0 + length (now classes) ≤ 65536 ⌝ }
-    ensures { λ r. ⌜ Gathered (items (from .0) (now (classes .entry)) (now (levels .entry))) (now (levels .entry)) (now (order .entry)) r (now (levels .exit)) (now (order .exit)) ⌝ }
+    ensures { λ r. ⌜ LaidOut (items (from .0) (now (classes .entry)) (now (levels .entry))) (now (levels .entry)) (now (order .entry)) r (now (levels .exit)) (now (order .exit)) ⌝ }
 {
     if parts::any_removed(classes) {
         return gather_kept(classes, from, levels, order);

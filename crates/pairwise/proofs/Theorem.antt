@@ -12,6 +12,7 @@ use Rattle.laws.specs.Choice.{isOdd}
 use Rattle.rules.specs.Classes.{isRemoved}
 use Rattle.rules.specs.Explicit.{kept}
 use Rattle.laws.specs.Parts.{part}
+use Rattle.rules.proofs.LineLaws.{length-L1}
 use Rattle.rules.specs.Line.{Item, L1, items, L2, lineLevels, lineOrder}
 use Rattle.laws.proofs.Passes.{by-test}
 use Rattle.pairwise.specs.Demand3.{least, OnLine, leastBetween, Displayed}
@@ -120,16 +121,10 @@ module _ (cs ls : List ℕ) (from to : ℕ) (up : from ≤ to) (within : to ≤ 
 
 -- ---- The line's own levels
 
-length-L1 : (base : ℕ) (cs ls : List ℕ) → length cs ≡ length ls → length (L1 base cs ls) ≡ length cs
-unfolding L1
-length-L1 base [] ls same = refl
-length-L1 base (c ∷ cs) [] same = absurd (omega arith)
-length-L1 base (c ∷ cs) (l ∷ ls) same = ap suc (length-L1 base cs ls (omega arith))
-
 pub demand3 : (base : ℕ) (cs ls : List ℕ) (from to : ℕ) → from ≤ to → to ≤ length cs → length cs ≤ length ls → Displayed cs (lineLevels base cs ls from to) (lineOrder base cs ls from to) from to
 unfolding lineLevels lineOrder
 demand3 base cs ls from to up within room =
     let classes : length (part from to cs) ≡ to - from = length-part from to cs up within in
     let levels : length (part from to ls) ≡ to - from = length-part from to ls up (omega arith) in
     displayed cs (L1 base (part from to cs) (part from to ls)) from to up within
-    (length-L1 base (part from to cs) (part from to ls) (classes ∙ sym levels) ∙ classes)
+    (length-L1 base (part from to cs) (part from to ls) (levels ∙ sym classes) ∙ classes)

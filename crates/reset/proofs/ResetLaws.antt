@@ -12,6 +12,7 @@ use Rattle.rules.specs.Classes.{isRemoved, isSeparator, isBlank}
 use Rattle.laws.specs.Parts.{over}
 use Rattle.rules.specs.Line.{resetLevel, L1, blankAhead}
 use Rattle.laws.proofs.Lists.{drop-set-here}
+use Rattle.rules.proofs.LineLaws.{length-L1}
 
 abbrev pub aheadOf : ℕ → Bool → Bool
 aheadOf c ahead = if isRemoved c || isBlank c then ahead else isSeparator c
@@ -23,12 +24,6 @@ L1-drop base cs ls k h g = rw (drop-cons cs k 0 h, drop-cons ls k 0 g)
 pub blankAhead-drop : (cs : List ℕ) (k : ℕ) → k < length cs → blankAhead (drop k cs) ≡ aheadOf (getD cs k 0) (blankAhead (drop (suc k) cs))
 unfolding blankAhead
 blankAhead-drop cs k h = rw (drop-cons cs k 0 h)
-
-pub length-L1 : (base : ℕ) (cs ls : List ℕ) → length ls ≡ length cs → length (L1 base cs ls) ≡ length cs
-unfolding L1
-length-L1 base [] ls h = refl
-length-L1 base (c ∷ cs) [] h = h
-length-L1 base (c ∷ cs) (l ∷ ls) h = ap suc (length-L1 base cs ls (omega arith))
 
 -- the positions from i on are reset, and what stands past the line is as it was
 pub record Reset (base : ℕ) (cs ls out₀ out : List ℕ) (i : ℕ) (ahead : Bool) : Type 0 where

@@ -18,7 +18,7 @@ use Rattle.laws.proofs.Any.{none-first, neither}
 use Rattle.laws.proofs.Lists.{drop-next, le-or-lt}
 use Rattle.laws.proofs.Filling.{Filled, filled-next, filled-more, filled-all}
 use Rattle.reset.specs.Tails.{inTail, Tail, Rest, tailLevels}
-use Rattle.reset.proofs.ResetLaws.{length-L1}
+use Rattle.rules.proofs.LineLaws.{length-L1}
 
 -- the search from the end back: from i on all is blank or removed
 pub record Blank (cs : List ℕ) (i : ℕ) : Type 0 where

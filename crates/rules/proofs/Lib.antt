@@ -1,5 +1,7 @@
 -- Theorems about the definitions alone.
 pub mod Table
+pub mod LineLaws
+pub mod EndLaws
 pub mod JobLaws
 pub mod EquivalentLaws
 pub mod Ranking

@@ -4,7 +4,7 @@ use Prim.Native.Nat.{_-_, _≤_}
 use native.Mathlib.Omega.{arith}
 use lib.ListN.{length, drop}
 use Rattle.rules.specs.Explicit.{X1, levelHere, typeHere, explicitLevels, explicitTypes, kept}
-use Rattle.explicit.specs.Meaning.{meaning}
+use Rattle.machine.specs.Meaning.{meaning}
 use Rattle.explicit.proofs.ExplicitLaws.{levels-more, types-more}
 use Rattle.laws.proofs.Tests.{known}
 use Rattle.laws.proofs.Filling.{Filled, filled-count, filled-all}

@@ -1,0 +1,2 @@
+-- The laws that the answers of this crate cite.
+pub mod MachineLaws
