@@ -1,5 +1,8 @@
 -- Theorems about the definitions alone.
 pub mod Table
+pub mod RefusalTable
+pub mod RefusalLaws
+pub mod SoundLaws
 pub mod JobLaws
 pub mod EquivalentLaws
 pub mod Ranking

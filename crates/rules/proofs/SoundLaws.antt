@@ -7,7 +7,7 @@ use mathlib.Core.List.{List, [], _∷_}
 use borrow.Author.Tests.{ltb-false, leb-false, not-false}
 use lib.Dec.{leb, ltb}
 use lib.ListN.{length}
-use Rattle.rules.specs.Refusals.{Check, sound, refuse, _andThen_, refuseWhere, isEmpty, checkSome, checkLength, firstFault, checkClasses, checkRequest, checkBase, checkLevelRoom, firstBadLevel, checkLine, checkOrderRoom, endsRiseTo, checkEnds, checksOfLevels, checksOfOrder, checksOfLine, checksOfLines, checkMarkRoom, checksOfMarks}
+use Rattle.rules.specs.Refusals.{longestParagraph, Check, sound, refuse, _andThen_, refuseWhere, isEmpty, checkSome, checkLength, firstFault, checkClasses, checkRequest, checkBase, checkLevelRoom, firstBadLevel, checkLine, checkOrderRoom, endsRiseTo, checkEnds, checksOfLevels, checksOfOrder, checksOfLine, checksOfLines, checkMarkRoom, checksOfMarks}
 use Rattle.laws.proofs.Any.{neither}
 
 pub never-sound : {number place : ℕ} → refuse number place ≡ sound → ⊥
@@ -21,10 +21,10 @@ pub test-fails : (b : Bool) (number : ℕ) → refuseWhere b number ≡ sound �
 test-fails false number e = refl
 test-fails true number e = absurd (never-sound e)
 
-pub classes-length : (cs : List ℕ) → checkClasses cs ≡ sound → length cs ≤ 4096
+pub classes-length : (cs : List ℕ) → checkClasses cs ≡ sound → length cs ≤ longestParagraph
 unfolding checkClasses checkLength
 classes-length cs e =
-    ltb-false 4096 (length cs)
+    ltb-false longestParagraph (length cs)
     (test-fails _ _ (both-sound (checkLength cs) (firstFault 0 cs) (both-sound (checkSome cs) _ e .1) .0))
 
 pub classes-some : (cs : List ℕ) → checkClasses cs ≡ sound → 0 < length cs
@@ -34,7 +34,7 @@ classes-some (c ∷ cs) e = omega arith
 
 pub record LevelsSound (cs : List ℕ) (request room : ℕ) : Type 0 where
   pub classes : checkClasses cs ≡ sound
-  pub few : length cs ≤ 4096
+  pub few : length cs ≤ longestParagraph
   pub asked : request ≤ 2
   pub fits : length cs ≤ room
 
@@ -51,7 +51,7 @@ levels-sound cs request room e =
     }
 
 pub record OrderSound (cs levels : List ℕ) (base : ℕ) : Type 0 where
-  pub few : length cs ≤ 4096
+  pub few : length cs ≤ longestParagraph
   pub low : base ≤ 1
   pub fits : length cs ≤ length levels
 
@@ -104,7 +104,7 @@ lines-sound cs levels base ends room e =
     }
 
 pub record MarksSound (cs : List ℕ) (flags room : ℕ) : Type 0 where
-  pub few : length cs ≤ 4096
+  pub few : length cs ≤ longestParagraph
   pub flagged : length cs ≤ flags
   pub fits : length cs ≤ room
 
@@ -115,7 +115,7 @@ marks-sound cs flags room e =
     let last = both-sound (checkLength cs) (checkMarkRoom cs flags room) (later .1) in
     let short = neither (ltb flags (length cs)) (ltb room (length cs)) (test-fails _ _ (last .1)) in
     record {
-      few = ltb-false 4096 (length cs) (test-fails _ _ (last .0));
+      few = ltb-false longestParagraph (length cs) (test-fails _ _ (last .0));
       flagged = ltb-false flags (length cs) (short .0);
       fits = ltb-false room (length cs) (short .1);
     }

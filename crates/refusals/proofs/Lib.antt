@@ -1,4 +1,0 @@
-pub mod AnyLaws
-pub mod CheckLaws
-pub mod PageLaws
-pub mod SoundLaws
