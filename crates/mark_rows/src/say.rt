@@ -45,6 +45,6 @@ pub(crate) fn places(order: &[u16], n: usize) {
 
 pub(crate) fn refused(refusal: Refusal) {
     text(b" refused");
-    byte(refusal.number());
-    number(refusal.place());
+    byte(refusal.number);
+    number(refusal.place);
 }

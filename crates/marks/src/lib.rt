@@ -19,7 +19,7 @@ pub enum MarksAnswer {
 pub fn drawing_order(classes: &[u8], flags: &[u8], order: &mut [u16]) -> MarksAnswer
     ensures { λ r. ⌜ DrawsMarks (now (classes .entry)) (now (flags .entry)) (now (order .entry)) r (now (order .exit)) ⌝ }
 {
-    let checked = refusals::check_marks(classes, flags.len(), order.len());
+    let checked = checks::check_marks(classes, flags.len(), order.len());
     if let Checked::Refused(refusal) = checked {
         return MarksAnswer::Refused(refusal);
     }

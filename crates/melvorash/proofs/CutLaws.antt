@@ -11,8 +11,8 @@ use lib.ListN.{length, getD, take, drop, drop-of-length-le}
 use Rattle.laws.specs.Choice.{if_then_else_}
 use Rattle.rules.specs.Classes.{isUnknown, isParagraphEnd}
 use Rattle.rules.specs.Paragraph.{P1}
-use Rattle.rules.specs.Refusals.{Check, sound, refuse, checkSome, walk, checksOfCut}
-use Rattle.rules.specs.Jobs.{accepted, refused, answered, cutAnswer, cutPart}
+use Rattle.rules.specs.Refusals.{longestParagraph, Check, sound, refuse, checkSome, walk, checksOfCut}
+use Rattle.rules.specs.Jobs.{Answer, accepted, refused, answered, cutAnswer, cutPart}
 use Rattle.laws.proofs.Lists.{drop-next}
 use Rattle.melvorash.specs.Answers.{partLength}
 
@@ -25,17 +25,21 @@ P1-one : (c : ℕ) (cs : List ℕ) → P1 (c ∷ cs) ≡ (if isParagraphEnd c th
 unfolding P1
 P1-one c cs = refl
 
-cut-of : (cs : List ℕ) → (length cs ≡ 0 → ⊥) → answered (walk 4096 0 cs) (length (P1 cs)) ≡ cutAnswer cs
+-- what a walk with any limit answers; the limit of Cut is the longest paragraph
+abbrev pub walked : ℕ → List ℕ → Answer
+walked limit cs = answered (walk limit 0 cs) (length (P1 cs))
+
+pub cut-of : (cs : List ℕ) → (length cs ≡ 0 → ⊥) → walked longestParagraph cs ≡ cutAnswer cs
 unfolding cutAnswer checksOfCut checkSome
 cut-of [] h = absurd (h refl)
 cut-of (c ∷ cs) h = refl
 
 -- ---- the walk: where it stands at i
-pub record Walking (cs : List ℕ) (i : ℕ) : Type 0 where
+pub record Walking (limit : ℕ) (cs : List ℕ) (i : ℕ) : Type 0 where
   pub within : i ≤ length cs
-  pub room : i ≤ 4096
+  pub room : i ≤ limit
   pub some : length cs ≡ 0 → ⊥
-  pub checks : walk (4096 - i) i (drop i cs) ≡ walk 4096 0 cs
+  pub checks : walk (limit - i) i (drop i cs) ≡ walk limit 0 cs
   pub paragraph : i + length (P1 (drop i cs)) ≡ length (P1 cs)
 
 pub cut-none : (cs : List ℕ) → length cs ≡ 0 → refused 1 0 ≡ cutAnswer cs
@@ -43,44 +47,48 @@ unfolding cutAnswer checksOfCut checkSome
 cut-none [] h = refl
 cut-none (c ∷ cs) h = absurd (omega arith)
 
-pub walk-begun : (cs : List ℕ) → (length cs ≡ 0 → ⊥) → Walking cs 0
-walk-begun cs h = record { within = omega arith; room = omega arith; some = h; checks = refl; paragraph = zero-add (length (P1 cs)) }
+pub walk-begun : (limit : ℕ) (cs : List ℕ) → (length cs ≡ 0 → ⊥) → Walking limit cs 0
+walk-begun limit cs h =
+    let all : limit - 0 ≡ limit = omega arith in
+    record { within = omega arith; room = omega arith; some = h; checks = rw all; paragraph = zero-add (length (P1 cs)) }
 
-module _ (cs : List ℕ) (i : ℕ) (w : Walking cs i) where
-  settled : {check : Check} (n : ℕ) → check ≡ walk 4096 0 cs → n ≡ length (P1 cs) → answered check n ≡ cutAnswer cs
-  settled n e l = ap₂ answered e l ∙ cut-of cs (w .some)
+module _ (limit : ℕ) (cs : List ℕ) (i : ℕ) (w : Walking limit cs i) where
+  settled : {check : Check} (n : ℕ) → check ≡ walk limit 0 cs → n ≡ length (P1 cs) → answered check n ≡ walked limit cs
+  settled n e l = ap₂ answered e l
 
-  refusing : (number place : ℕ) → refuse number place ≡ walk 4096 0 cs → refused number place ≡ cutAnswer cs
+  refusing : (number place : ℕ) → refuse number place ≡ walk limit 0 cs → refused number place ≡ walked limit cs
   refusing number place e = settled {check = refuse number place} (length (P1 cs)) e refl
 
-  pub cut-done : length cs ≤ i → accepted i ≡ cutAnswer cs
+  pub cut-done : length cs ≤ i → accepted i ≡ walked limit cs
   unfolding walk P1
   cut-done h =
       settled {check = sound} i (rw (drop-of-length-le cs h) at (w .checks))
       (let e : i + length (P1 []) ≡ length (P1 cs) = rw (drop-of-length-le cs h) at (w .paragraph) in omega arith)
 
   module _ (h : i < length cs) where
-    pub cut-long : i ≡ 4096 → refused 3 0 ≡ cutAnswer cs
+    pub cut-long : i ≡ limit → refused 3 0 ≡ walked limit cs
     unfolding walk
-    cut-long e = refusing 3 0 (rw (e, drop-next cs 4096 (rw e at h)) at (w .checks))
+    cut-long e =
+        let none : limit - i ≡ 0 = omega arith in
+        refusing 3 0 (rw (none, drop-next cs i h) at (w .checks))
 
-    module _ (ne : i ≡ 4096 → ⊥) where
-      one-less : 4096 - i ≡ suc (4096 - (i + 1))
+    module _ (ne : i ≡ limit → ⊥) where
+      one-less : limit - i ≡ suc (limit - (i + 1))
       one-less = omega (arith, w .room, ne)
 
-      here : walk (4096 - i) i (drop i cs) ≡ (if isUnknown (getD cs i 0) then refuse 2 i else if isParagraphEnd (getD cs i 0) then sound else walk (4096 - (i + 1)) (i + 1) (drop (i + 1) cs))
+      here : walk (limit - i) i (drop i cs) ≡ (if isUnknown (getD cs i 0) then refuse 2 i else if isParagraphEnd (getD cs i 0) then sound else walk (limit - (i + 1)) (i + 1) (drop (i + 1) cs))
       here = rw (one-less, drop-next cs i h, walk-one) (rw add-one)
 
-      pub cut-unknown : isUnknown (getD cs i 0) ≡ true → refused 2 i ≡ cutAnswer cs
+      pub cut-unknown : isUnknown (getD cs i 0) ≡ true → refused 2 i ≡ walked limit cs
       cut-unknown u = refusing 2 i (rw (here, u) at (w .checks))
 
       module _ (u : isUnknown (getD cs i 0) ≡ false) where
-        pub cut-end : isParagraphEnd (getD cs i 0) ≡ true → accepted (i + 1) ≡ cutAnswer cs
+        pub cut-end : isParagraphEnd (getD cs i 0) ≡ true → accepted (i + 1) ≡ walked limit cs
         cut-end p =
             settled {check = sound} (i + 1) (rw (here, u, p) at (w .checks))
             (rw (drop-next cs i h, P1-one, p) at (w .paragraph))
 
-        pub cut-on : isParagraphEnd (getD cs i 0) ≡ false → Walking cs (i + 1)
+        pub cut-on : isParagraphEnd (getD cs i 0) ≡ false → Walking limit cs (i + 1)
         cut-on p =
             let e : i + suc (length (P1 (drop (i + 1) cs))) ≡ length (P1 cs) = rw (drop-next cs i h, P1-one, p) at (w .paragraph) in
             record {

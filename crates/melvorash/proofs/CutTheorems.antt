@@ -9,7 +9,7 @@ use lib.ListN.{length}
 use Rattle.laws.specs.Choice.{if_then_else_}
 use Rattle.rules.specs.Classes.{B, isUnknown, isParagraphEnd}
 use Rattle.rules.specs.Paragraph.{P1}
-use Rattle.rules.specs.Refusals.{Check, sound, refuse, isEmpty, checkSome, walk, checksOfCut}
+use Rattle.rules.specs.Refusals.{longestParagraph, Check, sound, refuse, isEmpty, checkSome, walk, checksOfCut}
 use Rattle.rules.specs.Jobs.{accepted, refused, answered, whereSound, cutAnswer, cutPart}
 use Rattle.rules.proofs.JobLaws.{never-both}
 
@@ -30,8 +30,8 @@ P1-after (c ∷ cs) ds es =
 
 checks-after : (cs ds es : List ℕ) → checksOfCut (cs ++ (B ∷ ds)) ≡ checksOfCut (cs ++ (B ∷ es))
 unfolding checksOfCut checkSome
-checks-after [] ds es = walk-after [] ds es 4096 0
-checks-after (c ∷ cs) ds es = walk-after (c ∷ cs) ds es 4096 0
+checks-after [] ds es = walk-after [] ds es longestParagraph 0
+checks-after (c ∷ cs) ds es = walk-after (c ∷ cs) ds es longestParagraph 0
 
 -- what stands after a separator never bears on Cut's answer, in either form
 pub after-never-bears : (cs ds es : List ℕ) → cutAnswer (cs ++ (B ∷ ds)) ≡ cutAnswer (cs ++ (B ∷ es))

@@ -5,7 +5,7 @@ use mathlib.Core.Path.{_≡_, refl, sym, ap, _∙_}
 use mathlib.Core.List.{List}
 use Rattle.rules.specs.Jobs.{Answer, accepted, refused, cutAnswer, cutPart, baseAnswer, levelsAnswer, explicitBuffer, resolveBuffer}
 use Rattle.laws.proofs.Determined.{determined}
-use Rattle.refusals.proofs.PageLaws.{refusalWith, refusal-told}
+use Rattle.refusals.specs.Page.{refusalWith}
 use Rattle.melvorash.specs.Answers.{cutPage, basePage, orderPage, Answers, Leaves, OrdersLine, OrdersLines}
 use Rattle.melvorash.specs.declared.answers.CutAnswer.{CutAnswer}
 use Rattle.melvorash.specs.declared.answers.CutAnswer.the-variants as Cutting
@@ -30,7 +30,7 @@ cutBack (refused n p) = Cutting.Refused (refusalWith n p)
 
 cut-reads : (r : CutAnswer) → cutBack (cutPage r) ≡ r
 cut-reads (Cutting.Length n) = refl
-cut-reads (Cutting.Refused r) = ap Cutting.Refused (refusal-told r)
+cut-reads (Cutting.Refused r) = refl
 
 abbrev baseBack : Answer → BaseAnswer
 baseBack (accepted n) = Basing.Level n
@@ -38,7 +38,7 @@ baseBack (refused n p) = Basing.Refused (refusalWith n p)
 
 base-reads : (r : BaseAnswer) → baseBack (basePage r) ≡ r
 base-reads (Basing.Level l) = refl
-base-reads (Basing.Refused r) = ap Basing.Refused (refusal-told r)
+base-reads (Basing.Refused r) = refl
 
 abbrev orderBack : Answer → OrderAnswer
 orderBack (accepted n) = Ordering.Ordered (record { count = n })
@@ -46,7 +46,7 @@ orderBack (refused n p) = Ordering.Refused (refusalWith n p)
 
 order-reads : (r : OrderAnswer) → orderBack (orderPage r) ≡ r
 order-reads (Ordering.Ordered p) = refl
-order-reads (Ordering.Refused r) = ap Ordering.Refused (refusal-told r)
+order-reads (Ordering.Refused r) = refl
 
 -- ---- the jobs
 pub cut-determined : (cs : List ℕ) {r s : CutAnswer} → Answers cutPage (cutAnswer cs) r → Answers cutPage (cutAnswer cs) s → r ≡ s

@@ -11,13 +11,13 @@ use lib.ListN.{length, drop, length-append, length-drop}
 use Rattle.laws.specs.Choice.{if_then_else_}
 use Rattle.rules.specs.Classes.{isRemoved}
 use Rattle.rules.specs.Paragraph.{baseOf}
-use Rattle.rules.specs.Explicit.{X1, explicitLevels, kept}
+use Rattle.rules.specs.Explicit.{highestExplicit, X1, explicitLevels, kept}
 use Rattle.rules.specs.Resolve.{resolvedLevels}
-use Rattle.rules.specs.Refusals.{sound, refuse, _andThen_, refuseWhere, checkBase, checkLevelRoom, isBadLevel, firstBadLevel, isEmpty, endsRiseTo, checkLine, checkEnds, checkOrderRoom, checksOfLevels, checksOfOrder, checksOfLine, checksOfLines}
+use Rattle.rules.specs.Refusals.{highestResolved, sound, refuse, _andThen_, refuseWhere, checkBase, checkLevelRoom, isBadLevel, firstBadLevel, isEmpty, endsRiseTo, checkLine, checkEnds, checkOrderRoom, checksOfLevels, checksOfOrder, checksOfLine, checksOfLines}
 use Rattle.laws.specs.Parts.{over}
 use Rattle.rules.specs.Jobs.{accepted, refused, answered, levelsAnswer, explicitBuffer, resolveBuffer, lineAnswer, linesAnswer}
 use Rattle.laws.proofs.Passes.{by-test}
-use Rattle.refusals.proofs.SoundLaws.{never-sound, levels-sound}
+use Rattle.rules.proofs.SoundLaws.{never-sound, levels-sound}
 use Rattle.paragraph.proofs.BaseLaws.{baseOf-small}
 use Rattle.explicit.proofs.ExplicitLaws.{length-levels, explicit-at-most-61}
 use Rattle.resolve.proofs.BoundLaws.{AtMost, at-most-all, resolved-accepted}
@@ -34,11 +34,11 @@ kept-over (c ∷ cs) [] rest e = absurd (omega arith)
 kept-over (c ∷ cs) (x ∷ xs) rest e =
     ap (λ (ys : List ℕ). if isRemoved c then ys else x ∷ ys) (kept-over cs xs rest (omega arith))
 
-level-fits : (c l : ℕ) → isRemoved c ≡ false → isBadLevel c l ≡ false → l ≤ 62
+level-fits : (c l : ℕ) → isRemoved c ≡ false → isBadLevel c l ≡ false → l ≤ highestResolved
 unfolding isBadLevel
-level-fits c l r e = let t : ltb 62 l ≡ false = rw r at e in ltb-false 62 l t
+level-fits c l r e = let t : ltb highestResolved l ≡ false = rw r at e in ltb-false highestResolved l t
 
-kept-fit : (at : ℕ) (cs ls : List ℕ) → firstBadLevel at cs ls ≡ sound → AtMost 62 (kept cs ls)
+kept-fit : (at : ℕ) (cs ls : List ℕ) → firstBadLevel at cs ls ≡ sound → AtMost highestResolved (kept cs ls)
 unfolding firstBadLevel kept
 kept-fit at [] ls e = tt
 kept-fit at (c ∷ cs) [] e = tt
@@ -53,15 +53,15 @@ kept-fit at (c ∷ cs) (l ∷ ls) e =
 -- ---- what Explicit and Resolve leave when they accept
 module _ (cs : List ℕ) (request : ℕ) (levels : List ℕ) (r : BaseAnswer) (after : List ℕ) (base : ℕ) where
   module _ (p : Leaves basePage (levelsAnswer cs request levels) (explicitBuffer cs request levels) r after) (a : basePage r ≡ accepted base) where
-    -- what Explicit writes on kept positions is at most 61
-    pub explicit-low : AtMost 61 (kept cs after)
+    -- what Explicit writes on kept positions is at most the highest explicit level
+    pub explicit-low : AtMost highestExplicit (kept cs after)
     unfolding levelsAnswer explicitBuffer
     explicit-low =
         let s = accepted-sound (checksOfLevels cs request (length levels)) (baseOf request cs) base (sym (p .answer) ∙ a) in
         let small : baseOf request cs ≤ 1 = baseOf-small request cs (levels-sound cs request (length levels) (s .0) .asked) in
         let written : after ≡ over (explicitLevels (baseOf request cs) (X1 (baseOf request cs)) cs) levels = p .buffer ∙ rw (s .0) in
         rw (written, kept-over cs (explicitLevels (baseOf request cs) (X1 (baseOf request cs)) cs) _ (length-levels (baseOf request cs) (X1 (baseOf request cs)) cs))
-        (at-most-all 61 (kept cs (explicitLevels (baseOf request cs) (X1 (baseOf request cs)) cs)) (explicit-at-most-61 (baseOf request cs) cs small))
+        (at-most-all highestExplicit (kept cs (explicitLevels (baseOf request cs) (X1 (baseOf request cs)) cs)) (explicit-at-most-61 (baseOf request cs) cs small))
 
   module _ (p : Leaves basePage (levelsAnswer cs request levels) (resolveBuffer cs request levels) r after) (a : basePage r ≡ accepted base) where
     resolved : (checksOfLevels cs request (length levels) ≡ sound) × (baseOf request cs ≡ base)
@@ -78,8 +78,8 @@ module _ (cs : List ℕ) (request : ℕ) (levels : List ℕ) (r : BaseAnswer) (a
     none-bad : firstBadLevel 0 cs after ≡ sound
     none-bad = rw written (resolved-accepted base cs (drop (length (resolvedLevels base cs)) levels) low)
 
-    -- what Resolve writes on kept positions is at most 62
-    pub resolve-low : AtMost 62 (kept cs after)
+    -- what Resolve writes on kept positions is at most the highest resolved level
+    pub resolve-low : AtMost highestResolved (kept cs after)
     resolve-low = kept-fit 0 cs after none-bad
 
     as-long : length after ≡ length levels

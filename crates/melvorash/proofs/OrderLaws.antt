@@ -7,7 +7,7 @@ use Rattle.rules.specs.Line.{lineOrder, allOrders}
 use Rattle.rules.specs.Refusals.{checksOfLine, checksOfLines}
 use Rattle.rules.specs.Jobs.{lineAnswer, lineBuffer, linesAnswer, linesBuffer}
 use Rattle.rules.proofs.JobLaws.{written-front}
-use Rattle.refusals.proofs.SoundLaws.{line-sound, lines-sound}
+use Rattle.rules.proofs.SoundLaws.{line-sound, lines-sound}
 use Rattle.pairwise.proofs.Theorem.{demand3}
 use Rattle.pairwise.proofs.Lines.{each-displayed}
 use Rattle.melvorash.specs.Answers.{orderPage, Leaves, OrdersLine, OrdersLines}

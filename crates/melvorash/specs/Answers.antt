@@ -6,7 +6,6 @@ use lib.ListN.{take}
 use Rattle.rules.specs.Line.{lineLevels}
 use Rattle.rules.specs.Jobs.{Answer, accepted, refused, lineAnswer, lineBuffer, linesAnswer, linesBuffer}
 use Rattle.pairwise.specs.Demand3.{Displayed, EachDisplayed}
-use Rattle.refusals.specs.Page.{numberOf, placeOf}
 use Rattle.melvorash.specs.declared.answers.CutAnswer.{CutAnswer}
 use Rattle.melvorash.specs.declared.answers.CutAnswer.the-variants as Cutting
 use Rattle.melvorash.specs.declared.answers.BaseAnswer.{BaseAnswer}
@@ -17,15 +16,15 @@ use Rattle.melvorash.specs.declared.answers.OrderAnswer.the-variants as 
 -- the length, the base level used or the count of positions placed; or the refusal's number and place
 abbrev pub cutPage : CutAnswer → Answer
 cutPage (Cutting.Length n) = accepted n
-cutPage (Cutting.Refused r) = refused (numberOf r) (placeOf r)
+cutPage (Cutting.Refused r) = refused (r .number) (r .place)
 
 abbrev pub basePage : BaseAnswer → Answer
 basePage (Basing.Level l) = accepted l
-basePage (Basing.Refused r) = refused (numberOf r) (placeOf r)
+basePage (Basing.Refused r) = refused (r .number) (r .place)
 
 abbrev pub orderPage : OrderAnswer → Answer
 orderPage (Ordering.Ordered p) = accepted (p .count)
-orderPage (Ordering.Refused r) = refused (numberOf r) (placeOf r)
+orderPage (Ordering.Refused r) = refused (r .number) (r .place)
 
 -- how long a part an answer of Cut gives: the paragraph's length, and 0 where it refuses
 abbrev pub partLength : Answer → ℕ

@@ -9,7 +9,7 @@ ghost use Rattle.melvorash.specs.Answers.{basePage, Leaves};
 pub fn explicit_levels(classes: &[u8], request: u8, levels: &mut [u8]) -> BaseAnswer
     ensures { λ r. ⌜ Leaves basePage (levelsAnswer (now (classes .entry)) request (now (levels .entry))) (explicitBuffer (now (classes .entry)) request (now (levels .entry))) r (now (levels .exit)) ⌝ }
 {
-    let checked = refusals::check_levels(classes, request, levels.len());
+    let checked = checks::check_levels(classes, request, levels.len());
     match checked {
         Checked::Refused(refusal) => BaseAnswer::Refused(refusal),
         Checked::Sound => {
@@ -24,7 +24,7 @@ pub fn explicit_levels(classes: &[u8], request: u8, levels: &mut [u8]) -> BaseAn
 pub fn resolve_levels(classes: &[u8], request: u8, levels: &mut [u8]) -> BaseAnswer
     ensures { λ r. ⌜ Leaves basePage (levelsAnswer (now (classes .entry)) request (now (levels .entry))) (resolveBuffer (now (classes .entry)) request (now (levels .entry))) r (now (levels .exit)) ⌝ }
 {
-    let checked = refusals::check_levels(classes, request, levels.len());
+    let checked = checks::check_levels(classes, request, levels.len());
     match checked {
         Checked::Refused(fault) => BaseAnswer::Refused(fault),
         Checked::Sound => {

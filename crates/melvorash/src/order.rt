@@ -15,7 +15,7 @@ pub fn order_line(
 ) -> OrderAnswer
     ensures { λ r. ⌜ OrdersLine (now (classes .entry)) (now (levels .entry)) base from to (now (order .entry)) r (now (order .exit)) ⌝ }
 {
-    let checked = refusals::check_line(classes, levels, base, from, to, order.len());
+    let checked = order_checks::check_line(classes, levels, base, from, to, order.len());
     match checked {
         Checked::Refused(refusal) => OrderAnswer::Refused(refusal),
         Checked::Sound => {
@@ -35,7 +35,7 @@ pub fn order_lines(
 ) -> OrderAnswer
     ensures { λ r. ⌜ OrdersLines (now (classes .entry)) (now (levels .entry)) base (now (ends .entry)) (now (order .entry)) r (now (order .exit)) ⌝ }
 {
-    let checked = refusals::check_lines(classes, levels, base, ends, order.len());
+    let checked = order_checks::check_lines(classes, levels, base, ends, order.len());
     match checked {
         Checked::Refused(fault) => OrderAnswer::Refused(fault),
         Checked::Sound => {

@@ -2,7 +2,9 @@
 use crate::answers::BaseAnswer;
 use crate::answers::CutAnswer;
 use refusals::Checked;
-use refusals::Refusal;
+use refusals::NO_CLASSES;
+use refusals::TOO_LONG;
+use refusals::UNKNOWN_CLASS;
 ghost use mathlib.Core.Path.{_≡_};
 ghost use Rattle.rules.specs.Jobs.{cutAnswer, cutPart, baseAnswer};
 ghost use Rattle.melvorash.specs.Answers.{cutPage, basePage, partLength, Answers};
@@ -12,16 +14,16 @@ pub fn cut(classes: &[u8]) -> CutAnswer
     ensures { λ r. ⌜ Answers cutPage (cutAnswer (now (classes .entry))) r ⌝ }
 {
     if classes.len() == 0 {
-        return CutAnswer::Refused(Refusal::NoClasses);
+        return CutAnswer::Refused(refusals::whole(NO_CLASSES));
     }
     let mut i = 0;
     while i < classes.len() {
         if i == refusals::LONGEST {
-            return CutAnswer::Refused(Refusal::TooLong);
+            return CutAnswer::Refused(refusals::whole(TOO_LONG));
         }
         let class = classes[i];
         if classes::is_unknown(class) {
-            return CutAnswer::Refused(Refusal::UnknownClass(i));
+            return CutAnswer::Refused(refusals::at(UNKNOWN_CLASS, i));
         }
         if classes::is_paragraph_end(class) {
             return CutAnswer::Length(i + 1);
@@ -53,7 +55,7 @@ pub fn cut_part(classes: &[u8]) -> &[u8]
 pub fn base(classes: &[u8]) -> BaseAnswer
     ensures { λ r. ⌜ Answers basePage (baseAnswer (now (classes .entry))) r ⌝ }
 {
-    let checked = refusals::check_classes(classes);
+    let checked = checks::check_classes(classes);
     match checked {
         Checked::Refused(refusal) => BaseAnswer::Refused(refusal),
         Checked::Sound => {

@@ -4,11 +4,11 @@ use melvorash::BaseAnswer;
 use melvorash::CutAnswer;
 use melvorash::OrderAnswer;
 use refusals::Refusal;
+ghost use mathlib.Core.Path.{_≡_};
 ghost use Rattle.rules.specs.Jobs.{accepted, refused};
-ghost use Rattle.refusals.specs.Page.{numberOf, placeOf};
 ghost use Rattle.marks.specs.Answers.{marksPage};
 ghost use Rattle.melvorash.specs.Answers.{cutPage, basePage, orderPage};
-ghost use Rattle.melvorash_c.specs.Boundary.{Gives};
+ghost use Rattle.melvorash_c.specs.Boundary.{numbersOf};
 
 // Accepted: refusal 0, place 0 and what the job answers. Refused: the page's number and place, value 0.
 // Three numbers of one width leave no padding, so every byte of an answer is determined.
@@ -21,7 +21,7 @@ pub struct Answer {
 
 // An accepted answer.
 fn of_value(value: usize) -> Answer
-    ensures { λ r. ⌜ Gives (accepted value) r ⌝ }
+    ensures { λ r. ⌜ r ≡ numbersOf (accepted value) ⌝ }
 {
     Answer {
         refusal: 0,
@@ -32,10 +32,10 @@ fn of_value(value: usize) -> Answer
 
 // A refused one.
 fn of_refusal(refusal: Refusal) -> Answer
-    ensures { λ r. ⌜ Gives (refused (numberOf refusal) (placeOf refusal)) r ⌝ }
+    ensures { λ r. ⌜ r ≡ numbersOf (refused (refusal .number) (refusal .place)) ⌝ }
 {
-    let number = refusal.number();
-    let place = refusal.place();
+    let number = refusal.number;
+    let place = refusal.place;
     Answer {
         refusal: number as usize,
         place,
@@ -45,7 +45,7 @@ fn of_refusal(refusal: Refusal) -> Answer
 
 // Each job's answer: the paragraph's length, the base level, the count of positions placed, the count of characters drawn.
 pub(crate) fn of_cut(answer: CutAnswer) -> Answer
-    ensures { λ r. ⌜ Gives (cutPage answer) r ⌝ }
+    ensures { λ r. ⌜ r ≡ numbersOf (cutPage answer) ⌝ }
 {
     match answer {
         CutAnswer::Length(length) => of_value(length),
@@ -54,7 +54,7 @@ pub(crate) fn of_cut(answer: CutAnswer) -> Answer
 }
 
 pub(crate) fn of_base(answer: BaseAnswer) -> Answer
-    ensures { λ r. ⌜ Gives (basePage answer) r ⌝ }
+    ensures { λ r. ⌜ r ≡ numbersOf (basePage answer) ⌝ }
 {
     match answer {
         BaseAnswer::Level(level) => of_value(level as usize),
@@ -63,7 +63,7 @@ pub(crate) fn of_base(answer: BaseAnswer) -> Answer
 }
 
 pub(crate) fn of_order(answer: OrderAnswer) -> Answer
-    ensures { λ r. ⌜ Gives (orderPage answer) r ⌝ }
+    ensures { λ r. ⌜ r ≡ numbersOf (orderPage answer) ⌝ }
 {
     match answer {
         OrderAnswer::Ordered(placed) => of_value(placed.count),
@@ -72,7 +72,7 @@ pub(crate) fn of_order(answer: OrderAnswer) -> Answer
 }
 
 pub(crate) fn of_marks(answer: MarksAnswer) -> Answer
-    ensures { λ r. ⌜ Gives (marksPage answer) r ⌝ }
+    ensures { λ r. ⌜ r ≡ numbersOf (marksPage answer) ⌝ }
 {
     match answer {
         MarksAnswer::Drawn(count) => of_value(count),

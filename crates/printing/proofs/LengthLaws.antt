@@ -1,19 +1,17 @@
 -- No line's output has as many bytes as the buffer that the program lends for it. Assumes nothing.
-use Prim.Native.Nat.{ℕ, suc, _+_, _≤_, _<_}
+use Prim.Native.Nat.{ℕ, _≤_, _<_}
 use native.Mathlib.Omega.{arith}
 use mathlib.Core.Path.{_≡_, refl, sym, ap, _∙_}
-use mathlib.Core.Bool.{Bool, true, false}
-use mathlib.Core.List.{List, [], _∷_, _++_, append-nil}
+use mathlib.Core.List.{List, [], _++_, append-nil}
 use borrow.Author.Tests.{ltb-false}
 use lib.Dec.{ltb}
 use lib.ListN.{length, getD, length-append}
-use Rattle.laws.specs.Choice.{if_then_else_}
-use Rattle.rules.specs.Classes.{isUnknown, isParagraphEnd}
 use Rattle.rules.specs.Paragraph.{baseOf}
 use Rattle.rules.specs.Resolve.{resolvedLevels}
 use Rattle.rules.specs.Line.{lineOrder}
-use Rattle.rules.specs.Refusals.{Check, sound, refuse, _andThen_, refuseWhere, isEmpty, checkSome, checkLength, faultAt, firstFault, checkClasses, checkRequest, firstBadLevel}
-use Rattle.refusals.proofs.SoundLaws.{test-fails, levels-sound}
+use Rattle.rules.specs.Refusals.{longestParagraph, Check, sound, refuse, _andThen_, isEmpty, checkSome, checkLength, firstFault, checkClasses, checkRequest, firstBadLevel}
+use Rattle.rules.proofs.RefusalLaws.{Told, told-then, told-where, told-faults}
+use Rattle.rules.proofs.SoundLaws.{test-fails, levels-sound}
 use Rattle.paragraph.proofs.BaseLaws.{baseOf-small}
 use Rattle.resolve.proofs.WholeLaws.{length-resolved}
 use Rattle.resolve.proofs.BoundLaws.{resolved-accepted}
@@ -26,50 +24,25 @@ use Rattle.printing.specs.Printing.{paragraphRows, paragraphText, lineTe
 use Rattle.printing.proofs.TextLaws.{checks-told}
 
 -- ---- a refusal of a paragraph has a small number and a place in it
-abbrev Within : ℕ → Check → Type 0
-Within limit sound = Unit {0}
-Within limit (refuse number place) = (number ≤ 10) × (place < limit)
+abbrev Within : ℕ → ℕ → ℕ → Type 0
+Within limit number place = (number ≤ 10) × (place < limit)
 
-within-then : (limit : ℕ) (a b : Check) → Within limit a → (a ≡ sound → Within limit b) → Within limit (a andThen b)
-within-then limit sound b p q = q refl
-within-then limit (refuse number place) b p q = p
-
-within-where : (limit number : ℕ) (test : Bool) → number ≤ 10 → 0 < limit → Within limit (refuseWhere test number)
-within-where limit number true h k = (h, k)
-within-where limit number false h k = tt
-
-within-if : (limit : ℕ) (test : Bool) (a b : Check) → Within limit a → Within limit b → Within limit (if test then a else b)
-within-if limit true a b p q = p
-within-if limit false a b p q = q
-
-within-fault : (limit at c : ℕ) (cs : List ℕ) → at < limit → Within limit (faultAt at c cs)
-unfolding faultAt
-within-fault limit at c cs h =
-    within-if limit (isUnknown c) _ _ (omega arith, h)
-    (within-if limit (isParagraphEnd c) _ _ (within-if limit (isEmpty cs) _ _ tt (omega arith, h)) tt)
-
-within-faults : (limit at : ℕ) (cs : List ℕ) → at + length cs ≤ limit → Within limit (firstFault at cs)
-unfolding firstFault
-within-faults limit at [] h = tt
-within-faults limit at (c ∷ cs) h =
-    within-then limit (faultAt at c cs) (firstFault (suc at) cs) (within-fault limit at c cs (omega arith))
-    (λ e. within-faults limit (suc at) cs (omega arith))
-
-few : (cs : List ℕ) → checkLength cs ≡ sound → length cs ≤ 4096
+few : (cs : List ℕ) → checkLength cs ≡ sound → length cs ≤ longestParagraph
 unfolding checkLength
-few cs e = ltb-false 4096 (length cs) (test-fails _ _ e)
+few cs e = ltb-false longestParagraph (length cs) (test-fails _ _ e)
 
-told-within : (cs : List ℕ) (request : ℕ) → Within 4096 (checkClasses cs andThen checkRequest request)
+told-within : (cs : List ℕ) (request : ℕ) → Told (Within longestParagraph) (checkClasses cs andThen checkRequest request)
 unfolding checkClasses checkSome checkLength checkRequest
 told-within cs request =
-    within-then 4096 (checkClasses cs) (checkRequest request)
-    (within-then 4096 (checkSome cs) (checkLength cs andThen firstFault 0 cs) (within-where 4096 1 (isEmpty cs) (omega arith) (omega arith))
-    (λ e. within-then 4096 (checkLength cs) (firstFault 0 cs) (within-where 4096 3 (ltb 4096 (length cs)) (omega arith) (omega arith))
-    (λ l. within-faults 4096 0 cs (omega (arith, few cs l)))))
-    (λ e. within-where 4096 5 (ltb 2 request) (omega arith) (omega arith))
+    let P = Within longestParagraph in
+    told-then P (checkClasses cs) (checkRequest request)
+    (told-then P (checkSome cs) (checkLength cs andThen firstFault 0 cs) (told-where P (isEmpty cs) 1 (omega arith, omega arith))
+    (λ e. told-then P (checkLength cs) (firstFault 0 cs) (told-where P (ltb longestParagraph (length cs)) 3 (omega arith, omega arith))
+    (λ l. told-faults P longestParagraph (λ n h. ((omega arith, h), (omega arith, h))) 0 cs (omega (arith, few cs l)))))
+    (λ e. told-where P (ltb 2 request) 5 (omega arith, omega arith))
 
 -- ---- three rows: two digits for a level, four for a position
-rows-short : (base : ℕ) (cs : List ℕ) → base ≤ 1 → length cs ≤ 4096 → length (paragraphRows base (resolvedLevels base cs) (lineOrder base cs (resolvedLevels base cs) 0 (length cs))) < mostOutput
+rows-short : (base : ℕ) (cs : List ℕ) → base ≤ 1 → length cs ≤ longestParagraph → length (paragraphRows base (resolvedLevels base cs) (lineOrder base cs (resolvedLevels base cs) 0 (length cs))) < mostOutput
 unfolding paragraphRows
 rows-short base cs low h =
     let levels = resolvedLevels base cs in
@@ -77,16 +50,16 @@ rows-short base cs low h =
     let long : length levels ≡ length cs = length-resolved base cs in
     let fine : firstBadLevel 0 cs levels ≡ sound = ap (firstBadLevel 0 cs) (sym (append-nil levels)) ∙ resolved-accepted base cs [] low in
     let shown = demand3 base cs levels 0 (length cs) (omega arith) (omega arith) (omega arith) in
-    let near : (i : ℕ) → i < length order → getD order i 0 < 4096 = λ i g. let b : getD order i 0 < length cs = shown .only i g .before in omega arith in
+    let near : (i : ℕ) → i < length order → getD order i 0 < longestParagraph = λ i g. let b : getD order i 0 < length cs = shown .only i g .before in omega arith in
     let count : length order ≤ length cs = omega (arith, length-lineOrder base cs levels 0 (length cs) (omega arith)) in
     let rows = length-append (baseRow base ++ levelsRow levels) (orderRow order) in
     let first = length-append (baseRow base) (levelsRow levels) in
     omega (arith, rows, first, base-row-size base low, levels-row-size cs levels long fine, order-row-size order near)
 
-told-short : (check : Check) (cs : List ℕ) (request : ℕ) → (checkClasses cs andThen checkRequest request) ≡ check → Within 4096 check → length (paragraphText request cs) < mostOutput
+told-short : (check : Check) (cs : List ℕ) (request : ℕ) → (checkClasses cs andThen checkRequest request) ≡ check → Told (Within longestParagraph) check → length (paragraphText request cs) < mostOutput
 unfolding paragraphText
 told-short sound cs request e w =
-    let s = levels-sound cs request 4096 (checks-told cs request 4096 (omega arith) ∙ e) in
+    let s = levels-sound cs request longestParagraph (checks-told cs request longestParagraph (omega arith) ∙ e) in
     rw e (rows-short (baseOf request cs) cs (baseOf-small request cs (s .asked)) (s .few))
 told-short (refuse number place) cs request e w =
     let size = refused-row-size number place (w .0) (omega (arith, w .1)) in

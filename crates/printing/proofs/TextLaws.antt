@@ -16,7 +16,7 @@ use Rattle.rules.specs.Line.{lineLevels, lineOrder}
 use Rattle.rules.specs.Refusals.{Check, sound, refuse, _andThen_, checkSome, checkLength, checkClasses, checkRequest, checkLevelRoom, checkLine, checkOrderRoom, checksOfLevels, checksOfOrder, checksOfLine}
 use Rattle.rules.specs.Jobs.{accepted, refused, answered, levelsAnswer, resolveBuffer, lineAnswer, lineBuffer}
 use Rattle.laws.proofs.Lists.{le-or-lt}
-use Rattle.refusals.proofs.SoundLaws.{classes-length, classes-some, levels-sound}
+use Rattle.rules.proofs.SoundLaws.{classes-length, classes-some, levels-sound}
 use Rattle.resolve.proofs.WholeLaws.{length-resolved}
 use Rattle.melvorash.specs.Answers.{basePage, orderPage, Leaves, OrdersLine}
 use Rattle.melvorash.specs.declared.answers.BaseAnswer.{BaseAnswer}

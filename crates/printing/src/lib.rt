@@ -5,7 +5,6 @@ ghost use lib.ListN.{length, take};
 ghost use Rattle.io.specs.Counts.{Counts};
 ghost use Rattle.rules.specs.Line.{lineOrder};
 ghost use Rattle.rules.specs.Refusals.{sound, checksOfLine};
-ghost use Rattle.refusals.specs.Page.{numberOf, placeOf};
 ghost use Rattle.writing.specs.Text.{refusedRow, Puts};
 ghost use Rattle.printing.specs.Printing.{paragraphRows, paragraphText, lineText, Prints};
 use melvorash::BaseAnswer;
@@ -68,9 +67,9 @@ fn put_paragraph(
 }
 
 fn put_refusal(refusal: Refusal, out: &mut [u8]) -> usize
-    ensures { λ r. ⌜ Puts (refusedRow (numberOf refusal) (placeOf refusal)) (now (out .entry)) 0 (now (out .exit)) r ⌝ }
+    ensures { λ r. ⌜ Puts (refusedRow (refusal .number) (refusal .place)) (now (out .entry)) 0 (now (out .exit)) r ⌝ }
 {
-    writing::put_refused_row(refusal.number(), refusal.place(), out, 0)
+    writing::put_refused_row(refusal.number, refusal.place, out, 0)
 }
 
 // The whole paragraph is one line. Order never refuses what Resolve wrote.

@@ -1,4 +1,1 @@
-pub mod AnyLaws
-pub mod CheckLaws
 pub mod PageLaws
-pub mod SoundLaws

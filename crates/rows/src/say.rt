@@ -71,7 +71,7 @@ pub(crate) fn part(part: &[u8]) {
 
 pub(crate) fn refused(refusal: Refusal) {
     text(b" refused ");
-    byte(refusal.number());
+    byte(refusal.number);
     text(b" ");
-    number(refusal.place());
+    number(refusal.place);
 }

@@ -2,6 +2,9 @@
 pub mod Table
 pub mod LineLaws
 pub mod EndLaws
+pub mod RefusalTable
+pub mod RefusalLaws
+pub mod SoundLaws
 pub mod JobLaws
 pub mod EquivalentLaws
 pub mod Ranking

@@ -2,7 +2,7 @@
 -- Assumes nothing.
 use mathlib.Core.Path.{sym, ap, _∙_}
 use Rattle.refusals.specs.Page.{checkOf}
-use Rattle.refusals.proofs.SoundLaws.{marks-sound}
+use Rattle.rules.proofs.SoundLaws.{marks-sound}
 use Rattle.marks.proofs.JobLaws.{marks-refused, marks-drawn}
 use borrow.Author.Needs.{needs}
 use Rattle.marks.proofs.drawing_order.Statement.{statement}

@@ -1,6 +1,6 @@
 -- `melvorash_c::melvorash_explicit` meets its contract: the job's own answer, in three numbers, and the buffer as the job leaves it.
 -- Assumes nothing.
-use Rattle.melvorash_c.proofs.BoundaryLaws.{gives-same}
+use Rattle.melvorash_c.proofs.BoundaryLaws.{levels-reads, gives}
 use borrow.Author.Needs.{needs}
 use Rattle.melvorash_c.proofs.melvorash_explicit.Statement.{statement}
 use Rattle.melvorash_c.proofs.melvorash_explicit.Tie as tie
@@ -15,7 +15,7 @@ same-length : tie.Need-same-length
 same-length c = search needs
 
 returns : tie.Need-returns
-returns c = record { answer = gives-same (c .of-base .ensures) (c .before .before .before .explicit-levels .ensures .answer); buffer = c .before .before .before .explicit-levels .ensures .buffer }
+returns c = record { answer = gives (c .of-base .ensures) (c .before .before .before .explicit-levels .ensures .answer) (levels-reads _ _ _); buffer = c .before .before .before .explicit-levels .ensures .buffer }
 
 pub melvorash-explicit-spec : {M : Type 1} → statement M
 melvorash-explicit-spec =

@@ -2,7 +2,7 @@
 -- Assumes nothing.
 use mathlib.Core.Path.{sym, ap}
 use lib.Seq.{length-take-le}
-use Rattle.refusals.proofs.SoundLaws.{line-sound}
+use Rattle.rules.proofs.SoundLaws.{line-sound}
 use Rattle.melvorash.specs.Answers.{orderPage}
 use Rattle.writing.proofs.TextLaws.{puts-same}
 use Rattle.printing.specs.Printing.{paragraphRows}

@@ -6,7 +6,7 @@ use denote.Ref.{now}
 use Rattle.laws.specs.Parts.{over}
 use Rattle.rules.specs.Jobs.{levelsAnswer, explicitBuffer}
 use Rattle.refusals.specs.Page.{checkOf}
-use Rattle.refusals.proofs.SoundLaws.{levels-sound}
+use Rattle.rules.proofs.SoundLaws.{levels-sound}
 use Rattle.paragraph.proofs.BaseLaws.{baseOf-small}
 use Rattle.rules.proofs.JobLaws.{answer-refused, answer-sound, left-refused, left-sound}
 use Rattle.rules.specs.Explicit.{X1, explicitLevels}

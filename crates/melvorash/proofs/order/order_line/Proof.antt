@@ -5,7 +5,7 @@ use mathlib.Core.Path.{sym, ap, _∙_}
 use native.Mathlib.Omega.{arith}
 use Rattle.rules.specs.Jobs.{lineAnswer, lineBuffer}
 use Rattle.refusals.specs.Page.{checkOf}
-use Rattle.refusals.proofs.SoundLaws.{line-sound}
+use Rattle.rules.proofs.SoundLaws.{line-sound}
 use Rattle.rules.proofs.JobLaws.{answer-refused, answer-sound, left-refused, left-sound}
 use borrow.Author.Needs.{needs}
 use Rattle.melvorash.proofs.order.order_line.Statement.{statement}

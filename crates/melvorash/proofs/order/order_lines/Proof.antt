@@ -4,7 +4,7 @@ use Rattle.melvorash.proofs.OrderLaws.{orders-lines}
 use mathlib.Core.Path.{sym, ap, _∙_}
 use Rattle.rules.specs.Jobs.{linesAnswer, linesBuffer}
 use Rattle.refusals.specs.Page.{checkOf}
-use Rattle.refusals.proofs.SoundLaws.{lines-sound}
+use Rattle.rules.proofs.SoundLaws.{lines-sound}
 use Rattle.rules.proofs.JobLaws.{answer-refused, answer-sound, left-refused, left-sound}
 use borrow.Author.Needs.{needs}
 use Rattle.melvorash.proofs.order.order_lines.Statement.{statement}

@@ -1,8 +1,8 @@
 -- `melvorash_c::answer::of_base` meets its contract: each case of the answer by what it stands for on the page.
 -- Assumes nothing.
-use mathlib.Core.Path.{sym, ap}
+use mathlib.Core.Path.{sym, ap, _∙_}
 use Rattle.melvorash.specs.Answers.{basePage}
-use Rattle.melvorash_c.proofs.BoundaryLaws.{gives-same}
+use Rattle.melvorash_c.specs.Boundary.{numbersOf}
 use borrow.Author.Needs.{needs}
 use Rattle.melvorash_c.proofs.answer.of_base.Statement.{statement}
 use Rattle.melvorash_c.proofs.answer.of_base.Tie as tie
@@ -23,10 +23,10 @@ of-refusal-requires : tie.Need-of-refusal-requires
 of-refusal-requires c κs = search needs
 
 returns : tie.Need-returns
-returns c = gives-same (c .of-value .ensures) (ap basePage (sym (c .before .before .answer .given .1)))
+returns c = c .of-value .ensures ∙ ap numbersOf (ap basePage (sym (c .before .before .answer .given .1)))
 
 returns-2 : tie.Need-returns-2
-returns-2 c = gives-same (c .of-refusal .ensures) (ap basePage (sym (c .before .before .answer2 .given .1)))
+returns-2 c = c .of-refusal .ensures ∙ ap numbersOf (ap basePage (sym (c .before .before .answer2 .given .1)))
 
 pub of-base-spec : {M : Type 1} → statement M
 of-base-spec =

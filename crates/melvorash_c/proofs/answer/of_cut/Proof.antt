@@ -1,8 +1,8 @@
 -- `melvorash_c::answer::of_cut` meets its contract: each case of the answer by what it stands for on the page.
 -- Assumes nothing.
-use mathlib.Core.Path.{sym, ap}
+use mathlib.Core.Path.{sym, ap, _∙_}
 use Rattle.melvorash.specs.Answers.{cutPage}
-use Rattle.melvorash_c.proofs.BoundaryLaws.{gives-same}
+use Rattle.melvorash_c.specs.Boundary.{numbersOf}
 use borrow.Author.Needs.{needs}
 use Rattle.melvorash_c.proofs.answer.of_cut.Statement.{statement}
 use Rattle.melvorash_c.proofs.answer.of_cut.Tie as tie
@@ -20,10 +20,10 @@ of-refusal-requires : tie.Need-of-refusal-requires
 of-refusal-requires c κs = search needs
 
 returns : tie.Need-returns
-returns c = gives-same (c .of-value .ensures) (ap cutPage (sym (c .before .before .answer .given .1)))
+returns c = c .of-value .ensures ∙ ap numbersOf (ap cutPage (sym (c .before .before .answer .given .1)))
 
 returns-2 : tie.Need-returns-2
-returns-2 c = gives-same (c .of-refusal .ensures) (ap cutPage (sym (c .before .before .answer2 .given .1)))
+returns-2 c = c .of-refusal .ensures ∙ ap numbersOf (ap cutPage (sym (c .before .before .answer2 .given .1)))
 
 pub of-cut-spec : {M : Type 1} → statement M
 of-cut-spec =
