@@ -26,7 +26,7 @@ unfolding P1
 P1-one c cs = refl
 
 -- what a walk with any limit answers; the limit of Cut is the longest paragraph
-abbrev pub walked : ℕ → List ℕ → Answer
+abbrev pub walked : ℕ → List ℕ → Answer ℕ
 walked limit cs = answered (walk limit 0 cs) (length (P1 cs))
 
 pub cut-of : (cs : List ℕ) → (length cs ≡ 0 → ⊥) → walked longestParagraph cs ≡ cutAnswer cs

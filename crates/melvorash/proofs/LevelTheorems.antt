@@ -15,7 +15,7 @@ use Rattle.rules.specs.Explicit.{highestExplicit, X1, explicitLevels, kept}
 use Rattle.rules.specs.Resolve.{resolvedLevels}
 use Rattle.rules.specs.Refusals.{highestResolved, sound, refuse, _andThen_, refuseWhere, checkBase, checkLevelRoom, isBadLevel, firstBadLevel, isEmpty, endsRiseTo, checkLine, checkEnds, checkOrderRoom, checksOfLevels, checksOfOrder, checksOfLine, checksOfLines}
 use Rattle.laws.specs.Parts.{over}
-use Rattle.rules.specs.Jobs.{accepted, refused, answered, levelsAnswer, explicitBuffer, resolveBuffer, lineAnswer, linesAnswer}
+use Rattle.rules.specs.Jobs.{Answer, accepted, refused, answered, levelsAnswer, explicitBuffer, resolveBuffer, lineAnswer, linesAnswer}
 use Rattle.laws.proofs.Passes.{by-test}
 use Rattle.rules.proofs.SoundLaws.{never-sound, levels-sound}
 use Rattle.paragraph.proofs.BaseLaws.{baseOf-small}
@@ -23,8 +23,7 @@ use Rattle.explicit.proofs.ExplicitLaws.{length-levels, explicit-at-most-61}
 use Rattle.resolve.proofs.BoundLaws.{AtMost, at-most-all, resolved-accepted}
 use Rattle.resolve.proofs.WholeLaws.{length-resolved}
 use Rattle.rules.proofs.JobLaws.{accepted-sound, never-both}
-use Rattle.melvorash.specs.Answers.{basePage, Leaves}
-use Rattle.melvorash.specs.declared.answers.BaseAnswer.{BaseAnswer}
+use Rattle.melvorash.specs.Answers.{Leaves}
 
 -- ---- kept positions of a written buffer
 kept-over : (cs xs rest : List ℕ) → length xs ≡ length cs → kept cs (xs ++ rest) ≡ kept cs xs
@@ -51,22 +50,22 @@ kept-fit at (c ∷ cs) (l ∷ ls) e =
     (λ r. rw r (level-fits c l r b, kept-fit (suc at) cs ls next)))
 
 -- ---- what Explicit and Resolve leave when they accept
-module _ (cs : List ℕ) (request : ℕ) (levels : List ℕ) (r : BaseAnswer) (after : List ℕ) (base : ℕ) where
-  module _ (p : Leaves basePage (levelsAnswer cs request levels) (explicitBuffer cs request levels) r after) (a : basePage r ≡ accepted base) where
+module _ (cs : List ℕ) (request : ℕ) (levels : List ℕ) (answer : Answer ℕ) (after : List ℕ) (base : ℕ) where
+  module _ (p : Leaves (levelsAnswer cs request levels) (explicitBuffer cs request levels) answer after) (a : answer ≡ accepted base) where
     -- what Explicit writes on kept positions is at most the highest explicit level
     pub explicit-low : AtMost highestExplicit (kept cs after)
     unfolding levelsAnswer explicitBuffer
     explicit-low =
-        let s = accepted-sound (checksOfLevels cs request (length levels)) (baseOf request cs) base (sym (p .answer) ∙ a) in
+        let s = accepted-sound (checksOfLevels cs request (length levels)) (baseOf request cs) base (sym (p .told) ∙ a) in
         let small : baseOf request cs ≤ 1 = baseOf-small request cs (levels-sound cs request (length levels) (s .0) .asked) in
         let written : after ≡ over (explicitLevels (baseOf request cs) (X1 (baseOf request cs)) cs) levels = p .buffer ∙ rw (s .0) in
         rw (written, kept-over cs (explicitLevels (baseOf request cs) (X1 (baseOf request cs)) cs) _ (length-levels (baseOf request cs) (X1 (baseOf request cs)) cs))
         (at-most-all highestExplicit (kept cs (explicitLevels (baseOf request cs) (X1 (baseOf request cs)) cs)) (explicit-at-most-61 (baseOf request cs) cs small))
 
-  module _ (p : Leaves basePage (levelsAnswer cs request levels) (resolveBuffer cs request levels) r after) (a : basePage r ≡ accepted base) where
+  module _ (p : Leaves (levelsAnswer cs request levels) (resolveBuffer cs request levels) answer after) (a : answer ≡ accepted base) where
     resolved : (checksOfLevels cs request (length levels) ≡ sound) × (baseOf request cs ≡ base)
     unfolding levelsAnswer
-    resolved = accepted-sound (checksOfLevels cs request (length levels)) (baseOf request cs) base (sym (p .answer) ∙ a)
+    resolved = accepted-sound (checksOfLevels cs request (length levels)) (baseOf request cs) base (sym (p .told) ∙ a)
 
     low : base ≤ 1
     low = rw (resolved .1) at (baseOf-small request cs (levels-sound cs request (length levels) (resolved .0) .asked))
@@ -97,7 +96,7 @@ module _ (cs : List ℕ) (request : ℕ) (levels : List ℕ) (r : BaseAnswer) (a
         rw (s .classes, le-ltb 1 base low, le-ltb (length after) (length cs) room, none-bad)
 
 -- ---- so it can refuse only with the line's own numbers
-refused-number : {m n p q : ℕ} → refused m p ≡ refused n q → m ≡ n
+refused-number : {m n p q : ℕ} → _≡_ {A = Answer ℕ} (refused m p) (refused n q) → m ≡ n
 refused-number e = cc
 
 two-tests : (b d : Bool) (m n value number place : ℕ) → answered (refuseWhere b m andThen refuseWhere d n) value ≡ refused number place → (number ≡ m) ⊎ (number ≡ n)

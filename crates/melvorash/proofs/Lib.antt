@@ -1,4 +1,5 @@
 -- Laws and theorems on the jobs that belong to no one function.
+pub mod AnswerLaws
 pub mod CutLaws
 pub mod CutTheorems
 pub mod OrderLaws

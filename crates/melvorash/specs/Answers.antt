@@ -10,42 +10,46 @@ use Rattle.melvorash.specs.declared.answers.CutAnswer.{CutAnswer}
 use Rattle.melvorash.specs.declared.answers.CutAnswer.the-variants as Cutting
 use Rattle.melvorash.specs.declared.answers.BaseAnswer.{BaseAnswer}
 use Rattle.melvorash.specs.declared.answers.BaseAnswer.the-variants as Basing
+use Rattle.melvorash.specs.declared.answers.LevelsAnswer.{LevelsAnswer}
+use Rattle.melvorash.specs.declared.answers.LevelsAnswer.the-variants as Levelling
 use Rattle.melvorash.specs.declared.answers.OrderAnswer.{OrderAnswer}
 use Rattle.melvorash.specs.declared.answers.OrderAnswer.the-variants as Ordering
 
--- the length, the base level used or the count of positions placed; or the refusal's number and place
-abbrev pub cutPage : CutAnswer → Answer
+-- the length, the base level, the base level used or the count of positions placed; or the refusal's number and place
+abbrev pub cutPage : CutAnswer → Answer ℕ
 cutPage (Cutting.Length n) = accepted n
 cutPage (Cutting.Refused r) = refused (r .number) (r .place)
 
-abbrev pub basePage : BaseAnswer → Answer
+abbrev pub basePage : BaseAnswer → Answer ℕ
 basePage (Basing.Level l) = accepted l
 basePage (Basing.Refused r) = refused (r .number) (r .place)
 
-abbrev pub orderPage : OrderAnswer → Answer
+abbrev pub levelsPage : LevelsAnswer → Answer ℕ
+levelsPage (Levelling.Base l) = accepted l
+levelsPage (Levelling.Refused r) = refused (r .number) (r .place)
+
+abbrev pub orderPage : OrderAnswer → Answer ℕ
 orderPage (Ordering.Ordered p) = accepted (p .count)
 orderPage (Ordering.Refused r) = refused (r .number) (r .place)
 
 -- how long a part an answer of Cut gives: the paragraph's length, and 0 where it refuses
-abbrev pub partLength : Answer → ℕ
+abbrev pub partLength : Answer ℕ → ℕ
 partLength (accepted n) = n
 partLength (refused number place) = 0
 
--- a job that is lent nothing to write: its answer, on the page, is the wanted one
-pub record Answers {R : Type 0} (page : R → Answer) (wanted : Answer) (r : R) : Type 0 where
-  pub answer : page r ≡ wanted
+-- ---- what a job promises, of its answer on the page: so a function that hands the answer on promises it in the same words
 
--- a job that is lent a buffer: also what the buffer holds afterwards, every place of it
-pub record Leaves {R : Type 0} (page : R → Answer) (wanted : Answer) (left : List ℕ) (r : R) (after : List ℕ) : Type 0 where
-  pub answer : page r ≡ wanted
+-- a job that is lent a buffer: its answer is the wanted one, and the buffer holds afterwards, at every place, what is to be left
+pub record Leaves {A : Type 0} (wanted : Answer A) (left : List ℕ) (answer : Answer A) (after : List ℕ) : Type 0 where
+  pub told : answer ≡ wanted
   pub buffer : after ≡ left
 
 -- Order of one line: also, where it accepts, what it wrote displays the line as demand 3 has it
-pub record OrdersLine (cs levels : List ℕ) (base from to : ℕ) (order : List ℕ) (r : OrderAnswer) (after : List ℕ) : Type 0 where
-  pub leaves : Leaves orderPage (lineAnswer cs levels base from to order) (lineBuffer cs levels base from to order) r after
-  pub display : (k : ℕ) → orderPage r ≡ accepted k → Displayed cs (lineLevels base cs levels from to) (take k after) from to
+pub record OrdersLine (cs levels : List ℕ) (base from to : ℕ) (order : List ℕ) (answer : Answer ℕ) (after : List ℕ) : Type 0 where
+  pub leaves : Leaves (lineAnswer cs levels base from to order) (lineBuffer cs levels base from to order) answer after
+  pub display : (k : ℕ) → answer ≡ accepted k → Displayed cs (lineLevels base cs levels from to) (take k after) from to
 
 -- Order of all lines: the same for each line in turn
-pub record OrdersLines (cs levels : List ℕ) (base : ℕ) (ends order : List ℕ) (r : OrderAnswer) (after : List ℕ) : Type 0 where
-  pub leaves : Leaves orderPage (linesAnswer cs levels base ends order) (linesBuffer cs levels base ends order) r after
-  pub display : (k : ℕ) → orderPage r ≡ accepted k → EachDisplayed base cs levels 0 ends (take k after)
+pub record OrdersLines (cs levels : List ℕ) (base : ℕ) (ends order : List ℕ) (answer : Answer ℕ) (after : List ℕ) : Type 0 where
+  pub leaves : Leaves (linesAnswer cs levels base ends order) (linesBuffer cs levels base ends order) answer after
+  pub display : (k : ℕ) → answer ≡ accepted k → EachDisplayed base cs levels 0 ends (take k after)

@@ -7,9 +7,15 @@ pub enum CutAnswer {
     Refused(Refusal),
 }
 
-// The base level used.
+// The base level by the text.
 pub enum BaseAnswer {
     Level(u8),
+    Refused(Refusal),
+}
+
+// The base level that Explicit or Resolve used.
+pub enum LevelsAnswer {
+    Base(u8),
     Refused(Refusal),
 }
 

@@ -1,36 +1,36 @@
 // Explicit and Resolve: a level for each position. Each writes the first levels of the lent buffer and
 // answers the base level used.
-use crate::answers::BaseAnswer;
+use crate::answers::LevelsAnswer;
 use refusals::Checked;
 ghost use Rattle.rules.specs.Jobs.{levelsAnswer, explicitBuffer, resolveBuffer};
-ghost use Rattle.melvorash.specs.Answers.{basePage, Leaves};
+ghost use Rattle.melvorash.specs.Answers.{levelsPage, Leaves};
 
 // The levels as they stand after X1 to X9.
-pub fn explicit_levels(classes: &[u8], request: u8, levels: &mut [u8]) -> BaseAnswer
-    ensures { λ r. ⌜ Leaves basePage (levelsAnswer (now (classes .entry)) request (now (levels .entry))) (explicitBuffer (now (classes .entry)) request (now (levels .entry))) r (now (levels .exit)) ⌝ }
+pub fn explicit_levels(classes: &[u8], request: u8, levels: &mut [u8]) -> LevelsAnswer
+    ensures { λ r. ⌜ Leaves (levelsAnswer (now (classes .entry)) request (now (levels .entry))) (explicitBuffer (now (classes .entry)) request (now (levels .entry))) (levelsPage r) (now (levels .exit)) ⌝ }
 {
     let checked = checks::check_levels(classes, request, levels.len());
     match checked {
-        Checked::Refused(refusal) => BaseAnswer::Refused(refusal),
+        Checked::Refused(refusal) => LevelsAnswer::Refused(refusal),
         Checked::Sound => {
             let base = paragraph::base_of(request, classes);
             explicit::explicit_levels(classes, base, levels);
-            BaseAnswer::Level(base)
+            LevelsAnswer::Base(base)
         }
     }
 }
 
 // The levels as they stand after I1 and I2, before any line is known.
-pub fn resolve_levels(classes: &[u8], request: u8, levels: &mut [u8]) -> BaseAnswer
-    ensures { λ r. ⌜ Leaves basePage (levelsAnswer (now (classes .entry)) request (now (levels .entry))) (resolveBuffer (now (classes .entry)) request (now (levels .entry))) r (now (levels .exit)) ⌝ }
+pub fn resolve_levels(classes: &[u8], request: u8, levels: &mut [u8]) -> LevelsAnswer
+    ensures { λ r. ⌜ Leaves (levelsAnswer (now (classes .entry)) request (now (levels .entry))) (resolveBuffer (now (classes .entry)) request (now (levels .entry))) (levelsPage r) (now (levels .exit)) ⌝ }
 {
     let checked = checks::check_levels(classes, request, levels.len());
     match checked {
-        Checked::Refused(fault) => BaseAnswer::Refused(fault),
+        Checked::Refused(fault) => LevelsAnswer::Refused(fault),
         Checked::Sound => {
             let used = paragraph::base_of(request, classes);
             resolve::resolve_levels(classes, used, levels);
-            BaseAnswer::Level(used)
+            LevelsAnswer::Base(used)
         }
     }
 }

@@ -7,6 +7,7 @@ mod paragraphs;
 
 pub use answers::BaseAnswer;
 pub use answers::CutAnswer;
+pub use answers::LevelsAnswer;
 pub use answers::OrderAnswer;
 pub use answers::Placed;
 pub use levels::explicit_levels;

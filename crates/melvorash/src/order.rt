@@ -2,7 +2,7 @@
 use crate::answers::OrderAnswer;
 use crate::answers::Placed;
 use refusals::Checked;
-ghost use Rattle.melvorash.specs.Answers.{OrdersLine, OrdersLines};
+ghost use Rattle.melvorash.specs.Answers.{orderPage, OrdersLine, OrdersLines};
 
 // The line from one position up to, not including, another.
 pub fn order_line(
@@ -13,7 +13,7 @@ pub fn order_line(
     to: usize,
     order: &mut [u16],
 ) -> OrderAnswer
-    ensures { λ r. ⌜ OrdersLine (now (classes .entry)) (now (levels .entry)) base from to (now (order .entry)) r (now (order .exit)) ⌝ }
+    ensures { λ r. ⌜ OrdersLine (now (classes .entry)) (now (levels .entry)) base from to (now (order .entry)) (orderPage r) (now (order .exit)) ⌝ }
 {
     let checked = order_checks::check_line(classes, levels, base, from, to, order.len());
     match checked {
@@ -33,7 +33,7 @@ pub fn order_lines(
     ends: &[u16],
     order: &mut [u16],
 ) -> OrderAnswer
-    ensures { λ r. ⌜ OrdersLines (now (classes .entry)) (now (levels .entry)) base (now (ends .entry)) (now (order .entry)) r (now (order .exit)) ⌝ }
+    ensures { λ r. ⌜ OrdersLines (now (classes .entry)) (now (levels .entry)) base (now (ends .entry)) (now (order .entry)) (orderPage r) (now (order .exit)) ⌝ }
 {
     let checked = order_checks::check_lines(classes, levels, base, ends, order.len());
     match checked {

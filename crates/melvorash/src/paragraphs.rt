@@ -7,11 +7,11 @@ use refusals::TOO_LONG;
 use refusals::UNKNOWN_CLASS;
 ghost use mathlib.Core.Path.{_≡_};
 ghost use Rattle.rules.specs.Jobs.{cutAnswer, cutPart, baseAnswer};
-ghost use Rattle.melvorash.specs.Answers.{cutPage, basePage, partLength, Answers};
+ghost use Rattle.melvorash.specs.Answers.{cutPage, basePage, partLength};
 
 // The paragraph's length. At most 4,096 positions are looked at, and none after the paragraph.
 pub fn cut(classes: &[u8]) -> CutAnswer
-    ensures { λ r. ⌜ Answers cutPage (cutAnswer (now (classes .entry))) r ⌝ }
+    ensures { λ r. ⌜ cutPage r ≡ cutAnswer (now (classes .entry)) ⌝ }
 {
     if classes.len() == 0 {
         return CutAnswer::Refused(refusals::whole(NO_CLASSES));
@@ -53,7 +53,7 @@ pub fn cut_part(classes: &[u8]) -> &[u8]
 
 // The base level of one paragraph, by its text.
 pub fn base(classes: &[u8]) -> BaseAnswer
-    ensures { λ r. ⌜ Answers basePage (baseAnswer (now (classes .entry))) r ⌝ }
+    ensures { λ r. ⌜ basePage r ≡ baseAnswer (now (classes .entry)) ⌝ }
 {
     let checked = checks::check_classes(classes);
     match checked {

@@ -9,10 +9,10 @@ use Rattle.rules.specs.Refusals.{Check, sound, refuse}
 use Rattle.laws.specs.Parts.{over}
 use Rattle.rules.specs.Jobs.{Answer, accepted, refused, answered, whereSound}
 
-pub answer-refused : {check : Check} {number place : ℕ} (value : ℕ) → check ≡ refuse number place → refused number place ≡ answered check value
+pub answer-refused : {A : Type 0} {check : Check} {number place : ℕ} (value : A) → check ≡ refuse number place → refused number place ≡ answered check value
 answer-refused value e = rw e
 
-pub answer-sound : {check : Check} {value wanted : ℕ} → check ≡ sound → value ≡ wanted → accepted value ≡ answered check wanted
+pub answer-sound : {A : Type 0} {check : Check} {value wanted : A} → check ≡ sound → value ≡ wanted → accepted value ≡ answered check wanted
 answer-sound e v = rw e (ap accepted v)
 
 pub left-refused : {check : Check} {number place : ℕ} (written buffer : List ℕ) → check ≡ refuse number place → buffer ≡ whereSound check written buffer
@@ -22,18 +22,18 @@ pub left-sound : {check : Check} {after written : List ℕ} (buffer : List ℕ) 
 left-sound buffer e w = rw e w
 
 -- ---- an accepted answer is its value, and then all checks found nothing wrong
-pub accepted-value : {m n : ℕ} → accepted m ≡ accepted n → m ≡ n
+pub accepted-value : {A : Type 0} {m n : A} → accepted m ≡ accepted n → m ≡ n
 accepted-value e = cc
 
-pub never-both : {n number place : ℕ} → accepted n ≡ refused number place → ⊥
+pub never-both : {A : Type 0} {n : A} {number place : ℕ} → accepted n ≡ refused number place → ⊥
 never-both e = let z : _≡_ {A = ℕ} 0 1 = cc in omega arith
 
-pub accepted-sound : (check : Check) (value n : ℕ) → answered check value ≡ accepted n → (check ≡ sound) × (value ≡ n)
+pub accepted-sound : {A : Type 0} (check : Check) (value n : A) → answered check value ≡ accepted n → (check ≡ sound) × (value ≡ n)
 accepted-sound sound value n e = (refl, accepted-value e)
 accepted-sound (refuse number place) value n e = absurd (never-both (sym e))
 
 -- where a job accepts, the first places of the buffer are what was to be written
-pub written-front : (check : Check) (wanted buffer after : List ℕ) (answer : Answer) (k : ℕ) → answer ≡ answered check (length wanted) → after ≡ whereSound check (over wanted buffer) buffer → answer ≡ accepted k → (check ≡ sound) × (take k after ≡ wanted)
+pub written-front : (check : Check) (wanted buffer after : List ℕ) (answer : Answer ℕ) (k : ℕ) → answer ≡ answered check (length wanted) → after ≡ whereSound check (over wanted buffer) buffer → answer ≡ accepted k → (check ≡ sound) × (take k after ≡ wanted)
 written-front check wanted buffer after answer k a b e =
     let s = accepted-sound check (length wanted) k (sym a ∙ e) in
     let left : after ≡ over wanted buffer = b ∙ rw (s .0) in

@@ -7,36 +7,34 @@ use Rattle.rules.specs.Paragraph.{P1, baseByText, baseOf}
 use Rattle.rules.specs.Explicit.{X1, explicitLevels}
 use Rattle.rules.specs.Resolve.{resolvedLevels}
 use Rattle.rules.specs.Line.{lineOrder, allOrders}
-use Rattle.rules.specs.Refusals.{Check, sound, refuse, checksOfCut, checksOfBase, checksOfLevels, checksOfLine, checksOfLines, checksOfMarks}
+use Rattle.rules.specs.Refusals.{Check, byCheck, checksOfCut, checksOfBase, checksOfLevels, checksOfLine, checksOfLines, checksOfMarks}
 
 -- a job accepts and answers a value, or refuses with a number and a place
-pub data Answer : Type 0 where
-  accepted : ℕ → Answer
-  refused : ℕ → ℕ → Answer
+pub data Answer (A : Type 0) : Type 0 where
+  accepted : A → Answer A
+  refused : ℕ → ℕ → Answer A
 
 -- the value where the checks find nothing wrong, else their refusal
-abbrev pub answered : Check → ℕ → Answer
-answered sound value = accepted value
-answered (refuse number place) value = refused number place
+abbrev pub answered : {A : Type 0} → Check → A → Answer A
+answered check value = byCheck check (accepted value) (λ number place. refused number place)
 
 -- the first list where the checks find nothing wrong, else the second
 abbrev pub whereSound : Check → List ℕ → List ℕ → List ℕ
-whereSound sound xs ys = xs
-whereSound (refuse number place) xs ys = ys
+whereSound check xs ys = byCheck check xs (λ number place. ys)
 
 -- Cut: the first paragraph's length; and the paragraph itself, empty where it is refused
-unfoldable pub cutAnswer : List ℕ → Answer
+unfoldable pub cutAnswer : List ℕ → Answer ℕ
 cutAnswer cs = answered (checksOfCut cs) (length (P1 cs))
 
 unfoldable pub cutPart : List ℕ → List ℕ
 cutPart cs = whereSound (checksOfCut cs) (P1 cs) []
 
 -- Base
-unfoldable pub baseAnswer : List ℕ → Answer
+unfoldable pub baseAnswer : List ℕ → Answer ℕ
 baseAnswer cs = answered (checksOfBase cs) (baseByText cs)
 
 -- Explicit and Resolve answer the base level used, and write a level for each position
-unfoldable pub levelsAnswer : List ℕ → ℕ → List ℕ → Answer
+unfoldable pub levelsAnswer : List ℕ → ℕ → List ℕ → Answer ℕ
 levelsAnswer cs request levels = answered (checksOfLevels cs request (length levels)) (baseOf request cs)
 
 unfoldable pub explicitBuffer : List ℕ → ℕ → List ℕ → List ℕ
@@ -49,7 +47,7 @@ resolveBuffer cs request levels =
     whereSound (checksOfLevels cs request (length levels)) (over (resolvedLevels (baseOf request cs) cs) levels) levels
 
 -- Order answers how many positions it ordered, and writes them from left to right
-unfoldable pub lineAnswer : List ℕ → List ℕ → ℕ → ℕ → ℕ → List ℕ → Answer
+unfoldable pub lineAnswer : List ℕ → List ℕ → ℕ → ℕ → ℕ → List ℕ → Answer ℕ
 lineAnswer cs levels base from to order =
     answered (checksOfLine cs levels base from to (length order)) (length (lineOrder base cs levels from to))
 
@@ -57,7 +55,7 @@ unfoldable pub lineBuffer : List ℕ → List ℕ → ℕ → ℕ → ℕ → Li
 lineBuffer cs levels base from to order =
     whereSound (checksOfLine cs levels base from to (length order)) (over (lineOrder base cs levels from to) order) order
 
-unfoldable pub linesAnswer : List ℕ → List ℕ → ℕ → List ℕ → List ℕ → Answer
+unfoldable pub linesAnswer : List ℕ → List ℕ → ℕ → List ℕ → List ℕ → Answer ℕ
 linesAnswer cs levels base ends order =
     answered (checksOfLines cs levels base ends (length order)) (length (allOrders base cs levels 0 ends))
 
@@ -67,5 +65,5 @@ linesBuffer cs levels base ends order =
 
 -- Marks answers how many characters it put in drawing order, all of them; `flags` and `room` are how many flags and places
 -- it is lent. What it writes is the list that Stacking.Draws tells
-unfoldable pub marksAnswer : List ℕ → ℕ → ℕ → Answer
+unfoldable pub marksAnswer : List ℕ → ℕ → ℕ → Answer ℕ
 marksAnswer cs flags room = answered (checksOfMarks cs flags room) (length cs)

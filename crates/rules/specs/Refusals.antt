@@ -26,6 +26,11 @@ abbrev pub _andThen_ : Check → Check → Check
 sound andThen next = next
 (refuse number place) andThen next = refuse number place
 
+-- one thing where a check finds nothing wrong, else what is made of the refusal's number and place
+abbrev pub byCheck : {A : Type 0} → Check → A → (ℕ → ℕ → A) → A
+byCheck sound here made = here
+byCheck (refuse number place) here made = made number place
+
 -- a refusal with place 0 where a test holds
 abbrev pub refuseWhere : Bool → ℕ → Check
 refuseWhere true number = refuse number 0

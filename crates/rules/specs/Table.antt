@@ -23,8 +23,8 @@ pub record Row : Type 0 where
   pub request : ℕ
   pub levels : List ℕ
   pub order : List ℕ
-  pub base : Answer
-  pub count : Answer
+  pub base : Answer ℕ
+  pub count : Answer ℕ
 
 -- a request by text, and what stands for the page's dash
 abbrev byText : ℕ
@@ -33,31 +33,32 @@ byText = 2
 abbrev removed : ℕ
 removed = removedLevel
 
--- a row of the page: both jobs accept, Resolve with the base used, Order with how many positions it ordered
-abbrev row : List ℕ → ℕ → List ℕ → List ℕ → Row
-row classes request levels order =
+-- a row of the page, and the base that its request gives: both jobs accept, Resolve with that base, Order with how many
+-- positions it ordered
+abbrev row : List ℕ → ℕ → ℕ → List ℕ → List ℕ → Row
+row classes request base levels order =
     record {
       classes = classes;
       request = request;
       levels = levels;
       order = order;
-      base = accepted (baseOf request classes);
+      base = accepted base;
       count = accepted (length order);
     }
 
 abbrev pub table : List Row
 table =
-    row (L ∷ []) byText (0 ∷ []) (0 ∷ []) ∷
-    row (AL ∷ EN ∷ []) byText (1 ∷ 2 ∷ []) (1 ∷ 0 ∷ []) ∷
-    row (L ∷ WS ∷ EN ∷ []) byText (0 ∷ 0 ∷ 0 ∷ []) (0 ∷ 1 ∷ 2 ∷ []) ∷
-    row (EN ∷ CS ∷ EN ∷ []) 1 (2 ∷ 2 ∷ 2 ∷ []) (0 ∷ 1 ∷ 2 ∷ []) ∷
-    row (EN ∷ CS ∷ CS ∷ EN ∷ []) 1 (2 ∷ 1 ∷ 1 ∷ 2 ∷ []) (3 ∷ 2 ∷ 1 ∷ 0 ∷ []) ∷
-    row (AN ∷ ET ∷ EN ∷ []) 1 (2 ∷ 2 ∷ 2 ∷ []) (0 ∷ 1 ∷ 2 ∷ []) ∷
-    row (R ∷ WS ∷ L ∷ []) 0 (1 ∷ 0 ∷ 0 ∷ []) (0 ∷ 1 ∷ 2 ∷ []) ∷
-    row (R ∷ WS ∷ L ∷ []) 1 (1 ∷ 1 ∷ 2 ∷ []) (2 ∷ 1 ∷ 0 ∷ []) ∷
-    row (RLE ∷ L ∷ PDF ∷ R ∷ []) 0 (removed ∷ 2 ∷ removed ∷ 1 ∷ []) (3 ∷ 1 ∷ []) ∷
-    row (EN ∷ BN ∷ CS ∷ EN ∷ []) 1 (2 ∷ removed ∷ 2 ∷ 2 ∷ []) (0 ∷ 2 ∷ 3 ∷ []) ∷
-    row (R ∷ S ∷ R ∷ []) 0 (1 ∷ 1 ∷ 1 ∷ []) (0 ∷ 1 ∷ 2 ∷ []) ∷
+    row (L ∷ []) byText 0 (0 ∷ []) (0 ∷ []) ∷
+    row (AL ∷ EN ∷ []) byText 1 (1 ∷ 2 ∷ []) (1 ∷ 0 ∷ []) ∷
+    row (L ∷ WS ∷ EN ∷ []) byText 0 (0 ∷ 0 ∷ 0 ∷ []) (0 ∷ 1 ∷ 2 ∷ []) ∷
+    row (EN ∷ CS ∷ EN ∷ []) 1 1 (2 ∷ 2 ∷ 2 ∷ []) (0 ∷ 1 ∷ 2 ∷ []) ∷
+    row (EN ∷ CS ∷ CS ∷ EN ∷ []) 1 1 (2 ∷ 1 ∷ 1 ∷ 2 ∷ []) (3 ∷ 2 ∷ 1 ∷ 0 ∷ []) ∷
+    row (AN ∷ ET ∷ EN ∷ []) 1 1 (2 ∷ 2 ∷ 2 ∷ []) (0 ∷ 1 ∷ 2 ∷ []) ∷
+    row (R ∷ WS ∷ L ∷ []) 0 0 (1 ∷ 0 ∷ 0 ∷ []) (0 ∷ 1 ∷ 2 ∷ []) ∷
+    row (R ∷ WS ∷ L ∷ []) 1 1 (1 ∷ 1 ∷ 2 ∷ []) (2 ∷ 1 ∷ 0 ∷ []) ∷
+    row (RLE ∷ L ∷ PDF ∷ R ∷ []) 0 0 (removed ∷ 2 ∷ removed ∷ 1 ∷ []) (3 ∷ 1 ∷ []) ∷
+    row (EN ∷ BN ∷ CS ∷ EN ∷ []) 1 1 (2 ∷ removed ∷ 2 ∷ 2 ∷ []) (0 ∷ 2 ∷ 3 ∷ []) ∷
+    row (R ∷ S ∷ R ∷ []) 0 0 (1 ∷ 1 ∷ 1 ∷ []) (0 ∷ 1 ∷ 2 ∷ []) ∷
     []
 
 -- the row of the same classes and request with what the jobs answer and leave, in buffers lent with any content

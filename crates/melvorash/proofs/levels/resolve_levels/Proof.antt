@@ -3,12 +3,11 @@
 use mathlib.Core.Path.{sym, ap, _∙_}
 use Prim.Native.Nat.{ℕ}
 use denote.Ref.{now}
-use Rattle.laws.specs.Parts.{over}
-use Rattle.rules.specs.Jobs.{levelsAnswer, resolveBuffer}
+use Rattle.rules.specs.Jobs.{resolveBuffer}
 use Rattle.refusals.specs.Page.{checkOf}
 use Rattle.rules.proofs.SoundLaws.{levels-sound}
 use Rattle.paragraph.proofs.BaseLaws.{baseOf-small}
-use Rattle.rules.proofs.JobLaws.{answer-refused, answer-sound, left-refused, left-sound}
+use Rattle.melvorash.proofs.AnswerLaws.{levels-refused, levels-written}
 use Rattle.rules.specs.Resolve.{resolvedLevels}
 use borrow.Author.Needs.{needs}
 use Rattle.melvorash.proofs.levels.resolve_levels.Statement.{statement}
@@ -32,23 +31,21 @@ resolve-levels-requires c κs =
     (rw (c .before .base-of .ensures) (baseOf-small _ _ (s .asked)), s .fits, s .few)
 
 returns : tie.Need-returns
-unfolding levelsAnswer resolveBuffer
+unfolding resolveBuffer
 returns c =
-    let e = sym (c .before .before .before .check-levels .ensures) ∙ ap checkOf (c .before .checked .given .1) in
-    record { answer = answer-refused _ e; buffer = left-refused _ _ e }
+    let a = c .before .before .before .before .before .before .args in
+    levels-refused (λ (b : ℕ). resolvedLevels b (now (a .classes))) _ _ _ _ _ (sym (c .before .before .before .check-levels .ensures) ∙ ap checkOf (c .before .checked .given .1))
 
 same-length : tie.Need-same-length
 same-length c = search needs
 
 returns-2 : tie.Need-returns-2
-unfolding levelsAnswer resolveBuffer
+unfolding resolveBuffer
 returns-2 c =
     let a = c .before .before .before .before .before .before .before .before .before .before .args in
-    let e = sym (c .before .before .before .before .before .before .before .check-levels .ensures) ∙ ap checkOf (c .before .before .before .before .before .enum-told .given .1) in
-    record {
-      answer = answer-sound e (c .before .before .before .before .base-of .ensures);
-      buffer = left-sound _ e (c .before .before .resolve-levels .ensures ∙ ap (λ (b : ℕ). over (resolvedLevels b (now (a .classes))) (now (a .levels))) (c .before .before .before .before .base-of .ensures));
-    }
+    levels-written (λ (b : ℕ). resolvedLevels b (now (a .classes))) _ _ _ _ _
+    (sym (c .before .before .before .before .before .before .before .check-levels .ensures) ∙ ap checkOf (c .before .before .before .before .before .enum-told .given .1))
+    (c .before .before .before .before .base-of .ensures) (c .before .before .resolve-levels .ensures)
 
 pub resolve-levels-spec : {M : Type 1} → statement M
 resolve-levels-spec =

@@ -1,12 +1,10 @@
 -- `melvorash::order::order_line` meets its contract: a refusal leaves the buffer, and else the checks give what the work asks for; demand 3 follows from what is left.
 -- Assumes nothing.
-use Rattle.melvorash.proofs.OrderLaws.{orders-line}
+use Rattle.melvorash.proofs.OrderLaws.{line-refused, line-written}
 use mathlib.Core.Path.{sym, ap, _∙_}
 use native.Mathlib.Omega.{arith}
-use Rattle.rules.specs.Jobs.{lineAnswer, lineBuffer}
 use Rattle.refusals.specs.Page.{checkOf}
 use Rattle.rules.proofs.SoundLaws.{line-sound}
-use Rattle.rules.proofs.JobLaws.{answer-refused, answer-sound, left-refused, left-sound}
 use borrow.Author.Needs.{needs}
 use Rattle.melvorash.proofs.order.order_line.Statement.{statement}
 use Rattle.melvorash.proofs.order.order_line.Tie as tie
@@ -26,19 +24,15 @@ order-line-requires c κs =
     (omega arith, (s .within, (s .order .fits, (s .order .few, s .fits))))
 
 returns : tie.Need-returns
-unfolding lineAnswer lineBuffer
-returns c =
-    let e = sym (c .before .before .before .check-line .ensures) ∙ ap checkOf (c .before .checked .given .1) in
-    orders-line _ _ _ _ _ _ _ _ (record { answer = answer-refused _ e; buffer = left-refused _ _ e })
+returns c = line-refused _ _ _ _ _ _ _ _ (sym (c .before .before .before .check-line .ensures) ∙ ap checkOf (c .before .checked .given .1))
 
 same-length : tie.Need-same-length
 same-length c = search needs
 
 returns-2 : tie.Need-returns-2
-unfolding lineAnswer lineBuffer
 returns-2 c =
-    let e = sym (c .before .before .before .before .before .before .check-line .ensures) ∙ ap checkOf (c .before .before .before .before .enum-told .given .1) in
-    orders-line _ _ _ _ _ _ _ _ (record { answer = answer-sound e (c .before .before .order-line .ensures .count); buffer = left-sound _ e (c .before .before .order-line .ensures .order) })
+    line-written _ _ _ _ _ _ _ _ (sym (c .before .before .before .before .before .before .check-line .ensures) ∙ ap checkOf (c .before .before .before .before .enum-told .given .1))
+    (c .before .before .order-line .ensures)
 
 pub order-line-spec : {M : Type 1} → statement M
 order-line-spec =

@@ -1,11 +1,9 @@
 -- `melvorash::order::order_lines` meets its contract: a refusal leaves the buffer, and else the checks give what the work asks for; demand 3 follows from what is left.
 -- Assumes nothing.
-use Rattle.melvorash.proofs.OrderLaws.{orders-lines}
+use Rattle.melvorash.proofs.OrderLaws.{lines-refused, lines-written}
 use mathlib.Core.Path.{sym, ap, _∙_}
-use Rattle.rules.specs.Jobs.{linesAnswer, linesBuffer}
 use Rattle.refusals.specs.Page.{checkOf}
 use Rattle.rules.proofs.SoundLaws.{lines-sound}
-use Rattle.rules.proofs.JobLaws.{answer-refused, answer-sound, left-refused, left-sound}
 use borrow.Author.Needs.{needs}
 use Rattle.melvorash.proofs.order.order_lines.Statement.{statement}
 use Rattle.melvorash.proofs.order.order_lines.Tie as tie
@@ -25,19 +23,15 @@ order-lines-requires c κs =
     (s .order .fits, (s .order .few, (s .rise, s .fits)))
 
 returns : tie.Need-returns
-unfolding linesAnswer linesBuffer
-returns c =
-    let e = sym (c .before .before .before .check-lines .ensures) ∙ ap checkOf (c .before .checked .given .1) in
-    orders-lines _ _ _ _ _ _ _ (record { answer = answer-refused _ e; buffer = left-refused _ _ e })
+returns c = lines-refused _ _ _ _ _ _ _ (sym (c .before .before .before .check-lines .ensures) ∙ ap checkOf (c .before .checked .given .1))
 
 same-length : tie.Need-same-length
 same-length c = search needs
 
 returns-2 : tie.Need-returns-2
-unfolding linesAnswer linesBuffer
 returns-2 c =
-    let e = sym (c .before .before .before .before .before .before .check-lines .ensures) ∙ ap checkOf (c .before .before .before .before .enum-told .given .1) in
-    orders-lines _ _ _ _ _ _ _ (record { answer = answer-sound e (c .before .before .order-lines .ensures .count); buffer = left-sound _ e (c .before .before .order-lines .ensures .order) })
+    lines-written _ _ _ _ _ _ _ (sym (c .before .before .before .before .before .before .check-lines .ensures) ∙ ap checkOf (c .before .before .before .before .enum-told .given .1))
+    (c .before .before .order-lines .ensures)
 
 pub order-lines-spec : {M : Type 1} → statement M
 order-lines-spec =

@@ -23,11 +23,11 @@ base-by-text-requires c κs = search needs
 
 returns : tie.Need-returns
 unfolding baseAnswer checksOfBase
-returns c = record { answer = answer-refused _ (sym (c .before .before .before .check-classes .ensures) ∙ ap checkOf (c .before .checked .given .1)) }
+returns c = answer-refused _ (sym (c .before .before .before .check-classes .ensures) ∙ ap checkOf (c .before .checked .given .1))
 
 returns-2 : tie.Need-returns-2
 unfolding baseAnswer checksOfBase
-returns-2 c = record { answer = answer-sound (sym (c .before .before .before .check-classes .ensures) ∙ ap checkOf (c .before .enum-told .given .1)) (c .base-by-text .ensures) }
+returns-2 c = answer-sound (sym (c .before .before .before .check-classes .ensures) ∙ ap checkOf (c .before .enum-told .given .1)) (c .base-by-text .ensures)
 
 pub base-spec : {M : Type 1} → statement M
 base-spec =

@@ -20,7 +20,7 @@ whole-requires : tie.Need-whole-requires Inv-loop μ-loop
 whole-requires c κs = search needs
 
 returns : tie.Need-returns Inv-loop μ-loop
-returns c = record { answer = rw (c .whole .ensures) (cut-none _ (c .before .if1 .taken)) }
+returns c = rw (c .whole .ensures) (cut-none _ (c .before .if1 .taken))
 
 loop-holds : tie.Need-loop-holds Inv-loop μ-loop
 loop-holds c = walk-begun _ _ (c .if1 .left)
@@ -31,7 +31,7 @@ whole-requires-2 c κs = search needs
 returns-2 : tie.Need-returns-2 Inv-loop μ-loop
 returns-2 c =
     let w = c .before .before .before .loop .inv in
-    record { answer = rw (c .whole2 .ensures) (cut-long _ _ _ w (c .before .before .loop-test .taken) (c .before .if2 .taken) ∙ cut-of _ (w .some)) }
+    rw (c .whole2 .ensures) (cut-long _ _ _ w (c .before .before .loop-test .taken) (c .before .if2 .taken) ∙ cut-of _ (w .some))
 
 shared-slice-read-class : tie.Need-shared-slice-read-class Inv-loop μ-loop
 shared-slice-read-class c = search needs
@@ -46,12 +46,9 @@ returns-3 : tie.Need-returns-3 Inv-loop μ-loop
 returns-3 c =
     let at = c .before .before .before .before .before in
     let w = at .before .loop .inv in
-    record {
-      answer =
-          rw (c .at .ensures)
-          (cut-unknown _ _ _ w (at .loop-test .taken) (c .before .before .before .before .if2 .left) (known (c .before .before .is-unknown .ensures) (c .before .if3 .taken))
-          ∙ cut-of _ (w .some));
-    }
+    rw (c .at .ensures)
+    (cut-unknown _ _ _ w (at .loop-test .taken) (c .before .before .before .before .if2 .left) (known (c .before .before .is-unknown .ensures) (c .before .if3 .taken))
+    ∙ cut-of _ (w .some))
 
 is-paragraph-end-requires : tie.Need-is-paragraph-end-requires Inv-loop μ-loop
 is-paragraph-end-requires c κs = search needs
@@ -63,12 +60,9 @@ returns-4 : tie.Need-returns-4 Inv-loop μ-loop
 returns-4 c =
     let at = c .before .before .before .before .before .before in
     let w = at .before .loop .inv in
-    record {
-      answer =
-          cut-end _ _ _ w (at .loop-test .taken) (c .before .before .before .before .before .if2 .left) (known (c .before .before .before .is-unknown .ensures) (c .before .before .if3 .left))
-          (known (c .before .is-paragraph-end .ensures) (c .if4 .taken))
-          ∙ cut-of _ (w .some);
-    }
+    cut-end _ _ _ w (at .loop-test .taken) (c .before .before .before .before .before .if2 .left) (known (c .before .before .before .is-unknown .ensures) (c .before .before .if3 .left))
+    (known (c .before .is-paragraph-end .ensures) (c .if4 .taken))
+    ∙ cut-of _ (w .some)
 
 add-i : tie.Need-add-i Inv-loop μ-loop
 add-i c = search needs
@@ -84,7 +78,7 @@ loop-again c =
 returns-5 : tie.Need-returns-5 Inv-loop μ-loop
 returns-5 c =
     let w = c .before .loop .inv in
-    record { answer = cut-done _ _ _ w (c .loop-test .left) ∙ cut-of _ (w .some) }
+    cut-done _ _ _ w (c .loop-test .left) ∙ cut-of _ (w .some)
 
 pub cut-spec : {M : Type 1} → statement M
 cut-spec =

@@ -15,10 +15,10 @@ part-length-requires : tie.Need-part-length-requires
 part-length-requires c κs = search needs
 
 slice-aggregate-result : tie.Need-slice-aggregate-result
-slice-aggregate-result c = sym (length-take-le _ _ (part-given _ _ (c .before .part-length .ensures ∙ ap partLength (c .before .before .cut .ensures .answer)) .within))
+slice-aggregate-result c = sym (length-take-le _ _ (part-given _ _ (c .before .part-length .ensures ∙ ap partLength (c .before .before .cut .ensures)) .within))
 
 returns : tie.Need-returns
-returns c = part-given _ _ (c .before .part-length .ensures ∙ ap partLength (c .before .before .cut .ensures .answer)) .part
+returns c = part-given _ _ (c .before .part-length .ensures ∙ ap partLength (c .before .before .cut .ensures)) .part
 
 pub cut-part-spec : {M : Type 1} → statement M
 cut-part-spec =
