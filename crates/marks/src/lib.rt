@@ -6,7 +6,7 @@ mod stretch;
 use draw::draw;
 use refusals::Checked;
 use refusals::Refusal;
-ghost use Rattle.marks.specs.Answers.{DrawsMarks};
+ghost use Rattle.marks.specs.Answers.{marksPage, DrawsMarks};
 
 // How many characters were put in drawing order, or why none were.
 pub enum MarksAnswer {
@@ -17,7 +17,7 @@ pub enum MarksAnswer {
 // The order in which the characters are drawn, from their combining classes and a flag for each that is not 0 where it is a
 // modifier mark.
 pub fn drawing_order(classes: &[u8], flags: &[u8], order: &mut [u16]) -> MarksAnswer
-    ensures { λ r. ⌜ DrawsMarks (now (classes .entry)) (now (flags .entry)) (now (order .entry)) r (now (order .exit)) ⌝ }
+    ensures { λ r. ⌜ DrawsMarks (now (classes .entry)) (now (flags .entry)) (now (order .entry)) (marksPage r) (now (order .exit)) ⌝ }
 {
     let checked = checks::check_marks(classes, flags.len(), order.len());
     if let Checked::Refused(refusal) = checked {

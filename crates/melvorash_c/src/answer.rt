@@ -2,12 +2,13 @@
 use marks::MarksAnswer;
 use melvorash::BaseAnswer;
 use melvorash::CutAnswer;
+use melvorash::LevelsAnswer;
 use melvorash::OrderAnswer;
 use refusals::Refusal;
 ghost use mathlib.Core.Path.{_≡_};
 ghost use Rattle.rules.specs.Jobs.{accepted, refused};
 ghost use Rattle.marks.specs.Answers.{marksPage};
-ghost use Rattle.melvorash.specs.Answers.{cutPage, basePage, orderPage};
+ghost use Rattle.melvorash.specs.Answers.{cutPage, basePage, levelsPage, orderPage};
 ghost use Rattle.melvorash_c.specs.Boundary.{numbersOf};
 
 // Accepted: refusal 0, place 0 and what the job answers. Refused: the page's number and place, value 0.
@@ -43,7 +44,7 @@ fn of_refusal(refusal: Refusal) -> Answer
     }
 }
 
-// Each job's answer: the paragraph's length, the base level, the count of positions placed, the count of characters drawn.
+// Each job's answer: the paragraph's length, the base level, the base level used, the count of positions placed, the count of characters drawn.
 pub(crate) fn of_cut(answer: CutAnswer) -> Answer
     ensures { λ r. ⌜ r ≡ numbersOf (cutPage answer) ⌝ }
 {
@@ -59,6 +60,15 @@ pub(crate) fn of_base(answer: BaseAnswer) -> Answer
     match answer {
         BaseAnswer::Level(level) => of_value(level as usize),
         BaseAnswer::Refused(refusal) => of_refusal(refusal),
+    }
+}
+
+pub(crate) fn of_levels(answer: LevelsAnswer) -> Answer
+    ensures { λ r. ⌜ r ≡ numbersOf (levelsPage answer) ⌝ }
+{
+    match answer {
+        LevelsAnswer::Base(used) => of_value(used as usize),
+        LevelsAnswer::Refused(refusal) => of_refusal(refusal),
     }
 }
 

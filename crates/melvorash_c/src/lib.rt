@@ -6,15 +6,19 @@ mod answer;
 pub use answer::Answer;
 use answer::of_base;
 use answer::of_cut;
+use answer::of_levels;
 use answer::of_marks;
 use answer::of_order;
+ghost use mathlib.Core.Path.{_≡_};
 ghost use Rattle.rules.specs.Jobs.{cutAnswer, baseAnswer, levelsAnswer, explicitBuffer, resolveBuffer};
-ghost use Rattle.melvorash_c.specs.Boundary.{Gives, Fills, FillsLine, FillsLines, FillsMarks};
+ghost use Rattle.marks.specs.Answers.{DrawsMarks};
+ghost use Rattle.melvorash.specs.Answers.{Leaves, OrdersLine, OrdersLines};
+ghost use Rattle.melvorash_c.specs.Boundary.{Exports};
 
 // The first paragraph's length.
 #[no_mangle]
 pub extern "C" fn melvorash_cut(classes: &[u8]) -> Answer
-    ensures { λ r. ⌜ Gives (cutAnswer (now (classes .entry))) r ⌝ }
+    ensures { λ r. ⌜ Exports (λ a. a ≡ cutAnswer (now (classes .entry))) r ⌝ }
 {
     let paragraph = melvorash::cut(classes);
     of_cut(paragraph)
@@ -23,7 +27,7 @@ pub extern "C" fn melvorash_cut(classes: &[u8]) -> Answer
 // The base level of one paragraph, by its text.
 #[no_mangle]
 pub extern "C" fn melvorash_base(classes: &[u8]) -> Answer
-    ensures { λ r. ⌜ Gives (baseAnswer (now (classes .entry))) r ⌝ }
+    ensures { λ r. ⌜ Exports (λ a. a ≡ baseAnswer (now (classes .entry))) r ⌝ }
 {
     let by_text = melvorash::base(classes);
     of_base(by_text)
@@ -32,19 +36,19 @@ pub extern "C" fn melvorash_base(classes: &[u8]) -> Answer
 // The levels after X1 to X9, and the base level used.
 #[no_mangle]
 pub extern "C" fn melvorash_explicit(classes: &[u8], request: u8, levels: &mut [u8]) -> Answer
-    ensures { λ r. ⌜ Fills (levelsAnswer (now (classes .entry)) request (now (levels .entry))) (explicitBuffer (now (classes .entry)) request (now (levels .entry))) r (now (levels .exit)) ⌝ }
+    ensures { λ r. ⌜ Exports (λ a. Leaves (levelsAnswer (now (classes .entry)) request (now (levels .entry))) (explicitBuffer (now (classes .entry)) request (now (levels .entry))) a (now (levels .exit))) r ⌝ }
 {
     let explicit = melvorash::explicit_levels(classes, request, levels);
-    of_base(explicit)
+    of_levels(explicit)
 }
 
 // The levels after I1 and I2, and the base level used.
 #[no_mangle]
 pub extern "C" fn melvorash_resolve(classes: &[u8], request: u8, levels: &mut [u8]) -> Answer
-    ensures { λ r. ⌜ Fills (levelsAnswer (now (classes .entry)) request (now (levels .entry))) (resolveBuffer (now (classes .entry)) request (now (levels .entry))) r (now (levels .exit)) ⌝ }
+    ensures { λ r. ⌜ Exports (λ a. Leaves (levelsAnswer (now (classes .entry)) request (now (levels .entry))) (resolveBuffer (now (classes .entry)) request (now (levels .entry))) a (now (levels .exit))) r ⌝ }
 {
     let resolved = melvorash::resolve_levels(classes, request, levels);
-    of_base(resolved)
+    of_levels(resolved)
 }
 
 // One line's positions from left to right, and how many.
@@ -57,7 +61,7 @@ pub extern "C" fn melvorash_order_line(
     to: usize,
     order: &mut [u16],
 ) -> Answer
-    ensures { λ r. ⌜ FillsLine (now (classes .entry)) (now (levels .entry)) base from to (now (order .entry)) r (now (order .exit)) ⌝ }
+    ensures { λ r. ⌜ Exports (λ a. OrdersLine (now (classes .entry)) (now (levels .entry)) base from to (now (order .entry)) a (now (order .exit))) r ⌝ }
 {
     let line = melvorash::order_line(classes, levels, base, from, to, order);
     of_order(line)
@@ -72,7 +76,7 @@ pub extern "C" fn melvorash_order_lines(
     ends: &[u16],
     order: &mut [u16],
 ) -> Answer
-    ensures { λ r. ⌜ FillsLines (now (classes .entry)) (now (levels .entry)) base (now (ends .entry)) (now (order .entry)) r (now (order .exit)) ⌝ }
+    ensures { λ r. ⌜ Exports (λ a. OrdersLines (now (classes .entry)) (now (levels .entry)) base (now (ends .entry)) (now (order .entry)) a (now (order .exit))) r ⌝ }
 {
     let lines = melvorash::order_lines(classes, levels, base, ends, order);
     of_order(lines)
@@ -81,7 +85,7 @@ pub extern "C" fn melvorash_order_lines(
 // The order in which the characters are drawn, and how many.
 #[no_mangle]
 pub extern "C" fn melvorash_marks(classes: &[u8], flags: &[u8], order: &mut [u16]) -> Answer
-    ensures { λ r. ⌜ FillsMarks (now (classes .entry)) (now (flags .entry)) (now (order .entry)) r (now (order .exit)) ⌝ }
+    ensures { λ r. ⌜ Exports (λ a. DrawsMarks (now (classes .entry)) (now (flags .entry)) (now (order .entry)) a (now (order .exit))) r ⌝ }
 {
     let drawing = marks::drawing_order(classes, flags, order);
     of_marks(drawing)

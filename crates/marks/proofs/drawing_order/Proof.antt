@@ -15,7 +15,7 @@ enum-known-checked : tie.Need-enum-known-checked
 enum-known-checked c = search needs
 
 returns : tie.Need-returns
-returns c = marks-refused _ _ _ _ (sym (c .before .before .before .check-marks .ensures) ∙ ap checkOf (c .before .checked .given .1))
+returns c = marks-refused _ _ _ _ _ (sym (c .before .before .before .check-marks .ensures) ∙ ap checkOf (c .before .checked .given .1))
 
 enum-told : tie.Need-enum-told
 enum-told c = search needs

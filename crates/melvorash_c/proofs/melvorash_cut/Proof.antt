@@ -1,6 +1,6 @@
 -- `melvorash_c::melvorash_cut` meets its contract: the job's own answer, in three numbers.
 -- Assumes nothing.
-use Rattle.melvorash_c.proofs.BoundaryLaws.{cut-reads, gives}
+use Rattle.melvorash_c.proofs.BoundaryLaws.{cut-reads, exports}
 use borrow.Author.Needs.{needs}
 use Rattle.melvorash_c.proofs.melvorash_cut.Statement.{statement}
 use Rattle.melvorash_c.proofs.melvorash_cut.Tie as tie
@@ -12,7 +12,7 @@ of-cut-requires : tie.Need-of-cut-requires
 of-cut-requires c κs = search needs
 
 returns : tie.Need-returns
-returns c = gives (c .of-cut .ensures) (c .before .cut .ensures .answer) (cut-reads _)
+returns c = exports _ (c .of-cut .ensures) (c .before .cut .ensures) (cut-reads _) (c .before .cut .ensures)
 
 pub melvorash-cut-spec : {M : Type 1} → statement M
 melvorash-cut-spec = tie.close (tie.spec cut-requires of-cut-requires returns)

@@ -1,6 +1,6 @@
 -- `melvorash_c::melvorash_order_line` meets its contract: the job's own answer, in three numbers, and the order as the job leaves it.
 -- Assumes nothing.
-use Rattle.melvorash_c.proofs.BoundaryLaws.{fills-line}
+use Rattle.melvorash_c.proofs.BoundaryLaws.{line-reads, exports}
 use borrow.Author.Needs.{needs}
 use Rattle.melvorash_c.proofs.melvorash_order_line.Statement.{statement}
 use Rattle.melvorash_c.proofs.melvorash_order_line.Tie as tie
@@ -15,7 +15,9 @@ same-length : tie.Need-same-length
 same-length c = search needs
 
 returns : tie.Need-returns
-returns c = fills-line _ _ _ _ _ _ (c .before .before .before .order-line .ensures) (c .of-order .ensures)
+returns c =
+    let called = c .before .before .before .order-line .ensures in
+    exports _ (c .of-order .ensures) (called .leaves .told) (line-reads _ _ _ _ _ _) called
 
 pub melvorash-order-line-spec : {M : Type 1} → statement M
 melvorash-order-line-spec =
