@@ -1,7 +1,7 @@
 -- Theorems about the definitions alone.
 pub mod Table
 pub mod RefusalTable
-pub mod RefusalLaws
+pub mod ToldLaws
 pub mod SoundLaws
 pub mod JobLaws
 pub mod EquivalentLaws
