@@ -7,7 +7,7 @@ use borrow.Author.Tests.{ne-eqb}
 use lib.ListN.{length}
 use Rattle.rules.specs.Refusals.{Check, sound, refuse, checksOfCut, checksOfBase, checksOfLevels, checksOfLine, checksOfLines, checksOfMarks}
 use Rattle.rules.specs.Jobs.{Answer, answered, cutAnswer, baseAnswer, levelsAnswer, lineAnswer, linesAnswer, marksAnswer}
-use Rattle.rules.proofs.RefusalLaws.{Numbered, numbered-cut, numbered-base, numbered-levels, numbered-line, numbered-lines, numbered-marks}
+use Rattle.rules.proofs.ToldLaws.{Numbered, numbered-cut, numbered-base, numbered-levels, numbered-line, numbered-lines, numbered-marks}
 use Rattle.melvorash_c.specs.Boundary.{numbersOf, readOff, Exports}
 use Rattle.melvorash_c.specs.declared.answer.Answer as Exported
 

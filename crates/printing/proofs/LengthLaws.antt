@@ -10,7 +10,7 @@ use Rattle.rules.specs.Paragraph.{baseOf}
 use Rattle.rules.specs.Resolve.{resolvedLevels}
 use Rattle.rules.specs.Line.{lineOrder}
 use Rattle.rules.specs.Refusals.{longestParagraph, Check, sound, refuse, _andThen_, isEmpty, checkSome, checkLength, firstFault, checkClasses, checkRequest, firstBadLevel}
-use Rattle.rules.proofs.RefusalLaws.{Told, told-then, told-where, told-faults}
+use Rattle.rules.proofs.ToldLaws.{Told, told-then, told-where, told-faults}
 use Rattle.rules.proofs.SoundLaws.{test-fails, levels-sound}
 use Rattle.paragraph.proofs.BaseLaws.{baseOf-small}
 use Rattle.resolve.proofs.WholeLaws.{length-resolved}

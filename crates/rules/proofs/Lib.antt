@@ -3,7 +3,7 @@ pub mod Table
 pub mod LineLaws
 pub mod EndLaws
 pub mod RefusalTable
-pub mod RefusalLaws
+pub mod ToldLaws
 pub mod SoundLaws
 pub mod JobLaws
 pub mod EquivalentLaws
