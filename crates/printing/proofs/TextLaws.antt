@@ -14,13 +14,11 @@ use Rattle.rules.specs.Resolve.{resolvedLevels}
 use Rattle.laws.specs.Parts.{part, over}
 use Rattle.rules.specs.Line.{lineLevels, lineOrder}
 use Rattle.rules.specs.Refusals.{Check, sound, refuse, _andThen_, checkSome, checkLength, checkClasses, checkRequest, checkLevelRoom, checkLine, checkOrderRoom, checksOfLevels, checksOfOrder, checksOfLine}
-use Rattle.rules.specs.Jobs.{accepted, refused, answered, levelsAnswer, resolveBuffer, lineAnswer, lineBuffer}
+use Rattle.rules.specs.Jobs.{Answer, accepted, refused, answered, levelsAnswer, resolveBuffer, lineAnswer, lineBuffer}
 use Rattle.laws.proofs.Lists.{le-or-lt}
 use Rattle.rules.proofs.SoundLaws.{classes-length, classes-some, levels-sound}
 use Rattle.resolve.proofs.WholeLaws.{length-resolved}
-use Rattle.melvorash.specs.Answers.{basePage, orderPage, Leaves, OrdersLine}
-use Rattle.melvorash.specs.declared.answers.BaseAnswer.{BaseAnswer}
-use Rattle.melvorash.specs.declared.answers.OrderAnswer.{OrderAnswer}
+use Rattle.melvorash.specs.Answers.{Leaves, OrdersLine}
 use Rattle.rules.proofs.JobLaws.{accepted-value, never-both, accepted-sound}
 use Rattle.melvorash.proofs.LevelTheorems.{order-takes-resolved}
 use Rattle.writing.specs.Text.{refusedRow}
@@ -93,16 +91,16 @@ refused-check : (check : Check) (value number place : ℕ) → answered check va
 refused-check sound value number place e = absurd (never-both e)
 refused-check (refuse m p) value number place e = cc
 
-module _ (cs : List ℕ) (request : ℕ) (levels : List ℕ) (r : BaseAnswer) (after : List ℕ) (room : 4096 ≤ length levels) (l : Leaves basePage (levelsAnswer cs request levels) (resolveBuffer cs request levels) r after) where
-  pub resolve-refused : (number place : ℕ) → basePage r ≡ refused number place → refusedRow number place ≡ paragraphText request cs
+module _ (cs : List ℕ) (request : ℕ) (levels : List ℕ) (answer : Answer ℕ) (after : List ℕ) (room : 4096 ≤ length levels) (l : Leaves (levelsAnswer cs request levels) (resolveBuffer cs request levels) answer after) where
+  pub resolve-refused : (number place : ℕ) → answer ≡ refused number place → refusedRow number place ≡ paragraphText request cs
   unfolding levelsAnswer
   resolve-refused number place e =
-      sym (text-refused cs request (length levels) room number place (refused-check (checksOfLevels cs request (length levels)) (baseOf request cs) number place (sym (l .answer) ∙ e)))
+      sym (text-refused cs request (length levels) room number place (refused-check (checksOfLevels cs request (length levels)) (baseOf request cs) number place (sym (l .told) ∙ e)))
 
-  module _ (base : ℕ) (a : basePage r ≡ accepted base) where
+  module _ (base : ℕ) (a : answer ≡ accepted base) where
     checked : (checksOfLevels cs request (length levels) ≡ sound) × (baseOf request cs ≡ base)
     unfolding levelsAnswer
-    checked = accepted-sound (checksOfLevels cs request (length levels)) (baseOf request cs) base (sym (l .answer) ∙ a)
+    checked = accepted-sound (checksOfLevels cs request (length levels)) (baseOf request cs) base (sym (l .told) ∙ a)
 
     written : after ≡ over (resolvedLevels base cs) levels
     unfolding resolveBuffer
@@ -111,7 +109,7 @@ module _ (cs : List ℕ) (request : ℕ) (levels : List ℕ) (r : BaseAnswer) (a
     -- Order takes the whole paragraph as a line
     pub resolve-taken : (places : ℕ) → 4096 ≤ places → checksOfLine cs after base 0 (length cs) places ≡ sound
     resolve-taken places h =
-        line-taken cs after base places (levels-sound cs request (length levels) (checked .0) .classes) (order-takes-resolved cs request levels r after base l a) h
+        line-taken cs after base places (levels-sound cs request (length levels) (checked .0) .classes) (order-takes-resolved cs request levels answer after base l a) h
 
     pub resolve-text : paragraphRows base (take (length cs) after) (lineOrder base cs after 0 (length cs)) ≡ paragraphText request cs
     resolve-text =
@@ -130,21 +128,21 @@ module _ (text before : List ℕ) {after : List ℕ} {count : ℕ} (n : count �
   front-is = rw (n, w) (take-append-seam text (drop (length text) before))
 
 -- ---- what Order answers where its checks find nothing wrong
-module _ {cs levels : List ℕ} {base to : ℕ} {order : List ℕ} {r : OrderAnswer} {after : List ℕ} (s : checksOfLine cs levels base 0 to (length order) ≡ sound) (o : OrdersLine cs levels base 0 to order r after) where
-  answer : orderPage r ≡ accepted (length (lineOrder base cs levels 0 to))
+module _ {cs levels : List ℕ} {base to : ℕ} {order : List ℕ} {answer : Answer ℕ} {after : List ℕ} (s : checksOfLine cs levels base 0 to (length order) ≡ sound) (o : OrdersLine cs levels base 0 to order answer after) where
+  told : answer ≡ accepted (length (lineOrder base cs levels 0 to))
   unfolding lineAnswer
-  answer = o .leaves .answer ∙ rw s
+  told = o .leaves .told ∙ rw s
 
   left : after ≡ over (lineOrder base cs levels 0 to) order
   unfolding lineBuffer
   left = o .leaves .buffer ∙ rw s
 
-  pub order-not-refused : {number place : ℕ} → orderPage r ≡ refused number place → ⊥
-  order-not-refused e = never-both (sym answer ∙ e)
+  pub order-not-refused : {number place : ℕ} → answer ≡ refused number place → ⊥
+  order-not-refused e = never-both (sym told ∙ e)
 
-  module _ {count : ℕ} (a : orderPage r ≡ accepted count) where
+  module _ {count : ℕ} (a : answer ≡ accepted count) where
     counted : count ≡ length (lineOrder base cs levels 0 to)
-    counted = accepted-value (sym a ∙ answer)
+    counted = accepted-value (sym a ∙ told)
 
     pub order-within : count ≤ length after
     order-within = front-within (lineOrder base cs levels 0 to) order counted left

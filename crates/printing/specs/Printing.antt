@@ -8,15 +8,14 @@ use Rattle.laws.specs.Choice.{if_then_else_}
 use Rattle.rules.specs.Paragraph.{baseOf}
 use Rattle.rules.specs.Resolve.{resolvedLevels}
 use Rattle.rules.specs.Line.{lineOrder}
-use Rattle.rules.specs.Refusals.{Check, sound, refuse, _andThen_, checkClasses, checkRequest}
+use Rattle.rules.specs.Refusals.{Check, byCheck, _andThen_, checkClasses, checkRequest}
 use Rattle.laws.specs.Parts.{over}
 use Rattle.words.specs.Words.{linesOf, requestOf, classesOf}
 use Rattle.writing.specs.Text.{baseRow, levelsRow, orderRow, refusedRow}
 
 -- the rows where the checks find nothing wrong, else the refusal's row
 abbrev pub toldRows : Check → List ℕ → List ℕ
-toldRows sound rows = rows
-toldRows (refuse number place) rows = refusedRow number place
+toldRows check rows = byCheck check rows (λ number place. refusedRow number place)
 
 -- the base used, the levels before the line's reset, the order
 unfoldable pub paragraphRows : ℕ → List ℕ → List ℕ → List ℕ

@@ -7,7 +7,7 @@ ghost use Rattle.rules.specs.Line.{lineOrder};
 ghost use Rattle.rules.specs.Refusals.{sound, checksOfLine};
 ghost use Rattle.writing.specs.Text.{refusedRow, Puts};
 ghost use Rattle.printing.specs.Printing.{paragraphRows, paragraphText, lineText, Prints};
-use melvorash::BaseAnswer;
+use melvorash::LevelsAnswer;
 use melvorash::OrderAnswer;
 use refusals::Refusal;
 
@@ -61,8 +61,8 @@ fn put_paragraph(
 {
     let answer = melvorash::resolve_levels(classes, request, levels);
     match answer {
-        BaseAnswer::Refused(refusal) => put_refusal(refusal, out),
-        BaseAnswer::Level(base) => put_resolved(classes, levels, base, order, out),
+        LevelsAnswer::Refused(refusal) => put_refusal(refusal, out),
+        LevelsAnswer::Base(base) => put_resolved(classes, levels, base, order, out),
     }
 }
 
