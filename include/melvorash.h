@@ -64,8 +64,10 @@ extern "C" {
 
 /*
  * Refusals. A call that refuses has altered no buffer. Where several apply, the first in this order is
- * given: 1, 3, then 2 or 4 at the first faulty position, then 5, 6, 7, 8 or 10, 9. Cut gives only 1, 2 and
- * 3, and looks at nothing after the first paragraph. melvorash_marks gives only 1, 3 and 16, in this order.
+ * given: 1, 3, then 2 or 4 at the first faulty position, then 5, 6, 7, 8 or 10, 9. melvorash_marks gives only
+ * 1, 3 and 16, in this order. melvorash_cut gives 1, and then walks from the first position over at most
+ * 4,096: 2 where an unknown class comes before any B, also where more than 4,096 classes are lent; a B among
+ * them ends the paragraph, whatever follows; 3 where there is none among them and more follow.
  */
 enum melvorash_refusal {
     MELVORASH_ACCEPTED = 0,

@@ -3,6 +3,11 @@ use std::fmt;
 
 /// Why a call was refused. Then no lent buffer has changed. A position is held where one is at fault: the
 /// first such from the left.
+///
+/// Where several apply, the first in this order is given: 1, 3, then 2 or 4 at the first faulty position, then
+/// 5, 6, 7, 8 or 10, 9; the marks have 1, 3 and 16 alone. [`crate::cut`] gives 1, and then walks from the first
+/// position over at most 4,096: 2 where an unknown class comes before any B, also where more than 4,096 classes
+/// are lent; a B among them ends the paragraph, whatever follows; 3 where there is none and more follow.
 #[derive(Clone, Copy, Debug, PartialEq, Eq, Hash)]
 pub enum Refusal {
     /// There are no classes.
