@@ -2,7 +2,7 @@
 // of the definitions. Other code compares names; where it goes by their numbers, in a table or a range, a law says why.
 ghost use mathlib.Core.Path.{_≡_};
 ghost use Prim.Native.Nat.{_<_, min};
-ghost use Rattle.rules.specs.Classes.{isUnknown, isParagraphEnd, isOpening, isRemoved, isStrong, isNeutral, isSeparator, isBlank};
+ghost use Rattle.rules.specs.Classes.{isUnknown, isParagraphEnd, isOpening, isRemoved, isStrong, isNeutral, isSeparator, isBlank, lastPlace, places};
 
 pub const L: u8 = 0;
 
@@ -41,6 +41,9 @@ pub const S: u8 = 16;
 pub const WS: u8 = 17;
 
 pub const ON: u8 = 18;
+
+// A table by class has a place for each class, and behind them one for every other number.
+pub const PLACES: usize = 20;
 
 // What a level buffer holds at a removed position.
 pub const REMOVED_LEVEL: u8 = 255;
@@ -127,13 +130,13 @@ pub fn is_blank(c: u8) -> bool
     c == WS
 }
 
-// Where a class stands in a table by class: at its own number, and all that is no class at the place behind them.
+// Where a class stands in a table by class: at its own number, and all that is no class at the last place.
 pub fn place_of(c: u8) -> usize
-    ensures { λ r. ⌜ r ≡ min c 19 ⌝ }
-    ensures { λ r. ⌜ r < 20 ⌝ }
+    ensures { λ r. ⌜ r ≡ min c lastPlace ⌝ }
+    ensures { λ r. ⌜ r < places ⌝ }
 {
-    if c < 19 {
-        return c as usize;
+    if is_unknown(c) {
+        return PLACES - 1;
     }
-    19
+    c as usize
 }

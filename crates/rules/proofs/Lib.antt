@@ -1,5 +1,4 @@
 -- Theorems about the definitions alone.
-pub mod Table
 pub mod JobLaws
 pub mod EquivalentLaws
 pub mod Ranking

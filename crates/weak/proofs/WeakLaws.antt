@@ -9,23 +9,17 @@ use borrow.Author.Tests.{eqb-true, ne-eqb}
 use lib.Dec.{eqb}
 use lib.ListN.{length}
 use Rattle.laws.specs.Choice.{headOr}
-use Rattle.rules.specs.Classes.{EN, ES, ET, AN, CS, NSM}
-use Rattle.rules.specs.Weak.{W1, W2, W3, W4, W5, W6, W7, changeW3, changeW4, changeW5, changeW6, isTerminator, weak}
+use Rattle.rules.specs.Classes.{EN, ES, ET, AN, CS}
+use Rattle.rules.specs.Weak.{W1, W2, W3, W4, W5, W6, W7, changeW1, changeW2, strongW2, changeW3, changeW4, changeW5, changeW6, changeW7, strongW7, isTerminator, weak}
 use Rattle.laws.proofs.Passes.{sweep, length-sweep, map-sweep, length-stretches, by-test}
-use Rattle.weak.specs.Steps.{changeW1, changeW2, strongW2, changeW7, strongW7}
-
-pub W1-cons : (before t : ℕ) (ts : List ℕ) → W1 before (t ∷ ts) ≡ changeW1 before t ∷ W1 (changeW1 before t) ts
-unfolding W1 changeW1
-W1-cons before t ts = by-test (eqb t NSM) (λ mark. rw mark) (λ other. rw other)
 
 W1-sweep : (before : ℕ) (ts : List ℕ) → W1 before ts ≡ sweep (λ s t n. changeW1 s t) changeW1 0 before ts
 unfolding W1 sweep
 W1-sweep before [] = refl
-W1-sweep before (t ∷ ts) =
-    W1-cons before t ts ∙ ap (λ (r : List ℕ). changeW1 before t ∷ r) (W1-sweep (changeW1 before t) ts)
+W1-sweep before (t ∷ ts) = ap (λ (r : List ℕ). changeW1 before t ∷ r) (W1-sweep (changeW1 before t) ts)
 
 W2-sweep : (strong : ℕ) (ts : List ℕ) → W2 strong ts ≡ sweep (λ s t n. changeW2 s t) strongW2 0 strong ts
-unfolding W2 changeW2 strongW2 sweep
+unfolding W2 sweep
 W2-sweep strong [] = refl
 W2-sweep strong (t ∷ ts) = ap (λ (r : List ℕ). changeW2 strong t ∷ r) (W2-sweep (strongW2 strong t) ts)
 
@@ -63,7 +57,7 @@ unfolding W6
 W6-sweep ts = map-sweep changeW6 ts
 
 W7-sweep : (strong : ℕ) (ts : List ℕ) → W7 strong ts ≡ sweep (λ s t n. changeW7 s t) strongW7 0 strong ts
-unfolding W7 changeW7 strongW7 sweep
+unfolding W7 sweep
 W7-sweep strong [] = refl
 W7-sweep strong (t ∷ ts) = ap (λ (r : List ℕ). changeW7 strong t ∷ r) (W7-sweep (strongW7 strong t) ts)
 

@@ -1,7 +1,7 @@
 -- `weak::change_w1` meets its contract: the tests on the way to each return decide `changeW1`. Assumes nothing.
 use borrow.Author.Needs.{needs}
 use Rattle.laws.proofs.Tests.{tests}
-use Rattle.weak.specs.Steps.{changeW1}
+use Rattle.rules.specs.Weak.{changeW1}
 use Rattle.weak.proofs.change_w1.Statement.{statement}
 use Rattle.weak.proofs.change_w1.Tie as tie
 

@@ -1,9 +1,9 @@
--- `weak::steps::row_behind` meets its contract: the test decides the row. Assumes nothing.
+-- `weak_steps::row_behind` meets its contract: the test decides the row. Assumes nothing.
 use native.Mathlib.Omega.{arith}
 use Rattle.laws.proofs.Tests.{tests}
 use borrow.Author.Needs.{needs}
-use Rattle.weak.proofs.steps.row_behind.Statement.{statement}
-use Rattle.weak.proofs.steps.row_behind.Tie as tie
+use Rattle.weak_steps.proofs.row_behind.Statement.{statement}
+use Rattle.weak_steps.proofs.row_behind.Tie as tie
 
 returns : tie.Need-returns
 returns c = (search (needs, tests), omega arith)

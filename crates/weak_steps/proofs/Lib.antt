@@ -1,0 +1,2 @@
+-- What is read off the tables.
+pub mod TableLaws

@@ -1,0 +1,310 @@
+// What the rules that carry a strong type along make of one type, and what they carry on, by tables: which class comes next
+// cannot be foreseen, and a wrong guess at a branch costs more than the rule. A table has six rows, each with an entry for
+// each class and one for all other numbers. Two entries say what becomes of a type: 255 where it stays, or else 0 and the
+// new type. Two rows are for what stands behind the one strong type that makes a difference, two for what stands behind
+// any other, and two are for the strong type itself. A pass is lent its table, so that it is made once.
+ghost use mathlib.Core.Path.{_≡_};
+ghost use lib.Dec.{eqb};
+ghost use Prim.Native.Nat.{_≤_};
+ghost use Rattle.laws.specs.Choice.{if_then_else_};
+ghost use Rattle.rules.specs.Classes.{places};
+ghost use Rattle.weak_steps.specs.Tables.{early, late, changed, carried};
+
+// W2, then W3, and the strong type that W2 carries: AL makes a difference.
+const EARLY: [u8; 6 * classes::PLACES] = [
+    // whether a type stays behind any other strong type
+    255,
+    255,
+    255,
+    255,
+    0,
+    255,
+    255,
+    255,
+    255,
+    255,
+    255,
+    255,
+    255,
+    255,
+    255,
+    255,
+    255,
+    255,
+    255,
+    255,
+    // whether it stays behind AL
+    255,
+    255,
+    255,
+    255,
+    0,
+    255,
+    255,
+    255,
+    0,
+    255,
+    255,
+    255,
+    255,
+    255,
+    255,
+    255,
+    255,
+    255,
+    255,
+    255,
+    // what it becomes behind any other strong type
+    0,
+    0,
+    0,
+    0,
+    3,
+    0,
+    0,
+    0,
+    0,
+    0,
+    0,
+    0,
+    0,
+    0,
+    0,
+    0,
+    0,
+    0,
+    0,
+    0,
+    // what it becomes behind AL
+    0,
+    0,
+    0,
+    0,
+    3,
+    0,
+    0,
+    0,
+    11,
+    0,
+    0,
+    0,
+    0,
+    0,
+    0,
+    0,
+    0,
+    0,
+    0,
+    0,
+    // whether the strong type stays
+    0,
+    255,
+    255,
+    0,
+    0,
+    255,
+    255,
+    255,
+    255,
+    255,
+    255,
+    255,
+    255,
+    255,
+    255,
+    255,
+    255,
+    255,
+    255,
+    255,
+    // what it becomes
+    0,
+    0,
+    0,
+    3,
+    4,
+    0,
+    0,
+    0,
+    0,
+    0,
+    0,
+    0,
+    0,
+    0,
+    0,
+    0,
+    0,
+    0,
+    0,
+    0,
+];
+
+// W6, then W7, and the strong type that W7 carries: L makes a difference.
+const LATE: [u8; 6 * classes::PLACES] = [
+    // whether a type stays behind any other strong type
+    255,
+    255,
+    255,
+    255,
+    255,
+    255,
+    255,
+    255,
+    255,
+    0,
+    0,
+    255,
+    0,
+    255,
+    255,
+    255,
+    255,
+    255,
+    255,
+    255,
+    // whether it stays behind L
+    255,
+    255,
+    255,
+    255,
+    255,
+    255,
+    255,
+    255,
+    0,
+    0,
+    0,
+    255,
+    0,
+    255,
+    255,
+    255,
+    255,
+    255,
+    255,
+    255,
+    // what it becomes behind any other strong type
+    0,
+    0,
+    0,
+    0,
+    0,
+    0,
+    0,
+    0,
+    0,
+    18,
+    18,
+    0,
+    18,
+    0,
+    0,
+    0,
+    0,
+    0,
+    0,
+    0,
+    // what it becomes behind L
+    0,
+    0,
+    0,
+    0,
+    0,
+    0,
+    0,
+    0,
+    0,
+    18,
+    18,
+    0,
+    18,
+    0,
+    0,
+    0,
+    0,
+    0,
+    0,
+    0,
+    // whether the strong type stays
+    0,
+    255,
+    255,
+    0,
+    255,
+    255,
+    255,
+    255,
+    255,
+    255,
+    255,
+    255,
+    255,
+    255,
+    255,
+    255,
+    255,
+    255,
+    255,
+    255,
+    // what it becomes
+    0,
+    0,
+    0,
+    3,
+    0,
+    0,
+    0,
+    0,
+    0,
+    0,
+    0,
+    0,
+    0,
+    0,
+    0,
+    0,
+    0,
+    0,
+    0,
+    0,
+];
+
+pub fn early_table() -> [u8; 6 * classes::PLACES]
+    ensures { λ r. ⌜ r ≡ early ⌝ }
+{
+    EARLY
+}
+
+pub fn late_table() -> [u8; 6 * classes::PLACES]
+    ensures { λ r. ⌜ r ≡ late ⌝ }
+{
+    LATE
+}
+
+// The second row of two is for what stands behind the strong type that is wanted.
+fn row_behind(strong: u8, wanted: u8) -> usize
+    ensures { λ r. ⌜ r ≡ (if eqb strong wanted then places else 0) ⌝ }
+    ensures { λ r. ⌜ r ≤ places ⌝ }
+{
+    if strong == wanted {
+        return classes::PLACES;
+    }
+    0
+}
+
+// What a type becomes.
+pub fn change(table: &[u8; 6 * classes::PLACES], wanted: u8, strong: u8, t: u8) -> u8
+    ensures { λ r. ⌜ r ≡ changed (now (table .entry)) wanted strong t ⌝ }
+{
+    let at = row_behind(strong, wanted) + classes::place_of(t);
+    t & table[at] | table[2 * classes::PLACES + at]
+}
+
+// The strong type for what follows.
+pub fn carry(table: &[u8; 6 * classes::PLACES], strong: u8, t: u8) -> u8
+    ensures { λ r. ⌜ r ≡ carried (now (table .entry)) strong t ⌝ }
+{
+    let at = 4 * classes::PLACES + classes::place_of(t);
+    strong & table[at] | table[classes::PLACES + at]
+}
