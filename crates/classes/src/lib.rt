@@ -42,8 +42,10 @@ pub const WS: u8 = 17;
 
 pub const ON: u8 = 18;
 
+pub const HIGHEST: u8 = ON;
+
 // A table by class has a place for each class, and behind them one for every other number.
-pub const PLACES: usize = 20;
+pub const PLACES: usize = HIGHEST as usize + 2;
 
 // What a level buffer holds at a removed position.
 pub const REMOVED_LEVEL: u8 = 255;
@@ -52,7 +54,7 @@ pub const REMOVED_LEVEL: u8 = 255;
 pub fn is_unknown(c: u8) -> bool
     ensures { λ r. ⌜ r ≡ isUnknown c ⌝ }
 {
-    ON < c
+    HIGHEST < c
 }
 
 pub fn is_paragraph_end(c: u8) -> bool
@@ -135,8 +137,8 @@ pub fn place_of(c: u8) -> usize
     ensures { λ r. ⌜ r ≡ min c lastPlace ⌝ }
     ensures { λ r. ⌜ r < places ⌝ }
 {
-    if is_unknown(c) {
-        return PLACES - 1;
+    if c <= HIGHEST {
+        return c as usize;
     }
-    c as usize
+    PLACES - 1
 }

@@ -2,7 +2,8 @@
 // cannot be foreseen, and a wrong guess at a branch costs more than the rule. A table has six rows, each with an entry for
 // each class and one for all other numbers. Two entries say what becomes of a type: 255 where it stays, or else 0 and the
 // new type. Two rows are for what stands behind the one strong type that makes a difference, two for what stands behind
-// any other, and two are for the strong type itself. A pass is lent its table, so that it is made once.
+// any other, and two are for the strong type itself. Entries where something changes name the class. A pass is lent its
+// table, so that it is made once.
 ghost use mathlib.Core.Path.{_≡_};
 ghost use lib.Dec.{eqb};
 ghost use Prim.Native.Nat.{_≤_};
@@ -12,37 +13,12 @@ ghost use Rattle.weak_steps.specs.Tables.{early, late, changed, carried}
 
 // W2, then W3, and the strong type that W2 carries: AL makes a difference.
 const EARLY: [u8; 6 * classes::PLACES] = [
-    // whether a type stays behind any other strong type
+    // Whether a type stays behind any other strong type.
     255,
     255,
     255,
     255,
-    0,
-    255,
-    255,
-    255,
-    255,
-    255,
-    255,
-    255,
-    255,
-    255,
-    255,
-    255,
-    255,
-    255,
-    255,
-    255,
-    // whether it stays behind AL
-    255,
-    255,
-    255,
-    255,
-    0,
-    255,
-    255,
-    255,
-    0,
+    0, // AL
     255,
     255,
     255,
@@ -54,14 +30,37 @@ const EARLY: [u8; 6 * classes::PLACES] = [
     255,
     255,
     255,
-    // what it becomes behind any other strong type
-    0,
-    0,
+    255,
+    255,
+    255,
+    255,
+    // Whether it stays behind AL.
+    255,
+    255,
+    255,
+    255,
+    0, // AL
+    255,
+    255,
+    255,
+    0, // EN
+    255,
+    255,
+    255,
+    255,
+    255,
+    255,
+    255,
+    255,
+    255,
+    255,
+    255,
+    // What it becomes behind any other strong type.
     0,
     0,
-    3,
     0,
     0,
+    classes::R, // AL
     0,
     0,
     0,
@@ -75,20 +74,18 @@ const EARLY: [u8; 6 * classes::PLACES] = [
     0,
     0,
     0,
-    // what it becomes behind AL
+    0,
+    0,
+    // What it becomes behind AL.
     0,
     0,
     0,
     0,
-    3,
+    classes::R, // AL
     0,
     0,
     0,
-    11,
-    0,
-    0,
-    0,
-    0,
+    classes::AN, // EN
     0,
     0,
     0,
@@ -96,17 +93,16 @@ const EARLY: [u8; 6 * classes::PLACES] = [
     0,
     0,
     0,
-    // whether the strong type stays
     0,
+    0,
+    0,
+    0,
+    // Whether the strong type before stays, behind a type.
+    0, // L
     255,
     255,
-    0,
-    0,
-    255,
-    255,
-    255,
-    255,
-    255,
+    0, // R
+    0, // AL
     255,
     255,
     255,
@@ -117,12 +113,17 @@ const EARLY: [u8; 6 * classes::PLACES] = [
     255,
     255,
     255,
-    // what it becomes
+    255,
+    255,
+    255,
+    255,
+    255,
+    // What it becomes.
+    classes::L, // L
     0,
     0,
-    0,
-    3,
-    4,
+    classes::R, // R
+    classes::AL, // AL
     0,
     0,
     0,
@@ -142,7 +143,7 @@ const EARLY: [u8; 6 * classes::PLACES] = [
 
 // W6, then W7, and the strong type that W7 carries: L makes a difference.
 const LATE: [u8; 6 * classes::PLACES] = [
-    // whether a type stays behind any other strong type
+    // Whether a type stays behind any other strong type.
     255,
     255,
     255,
@@ -152,18 +153,10 @@ const LATE: [u8; 6 * classes::PLACES] = [
     255,
     255,
     255,
-    0,
-    0,
+    0, // ES
+    0, // ET
     255,
-    0,
-    255,
-    255,
-    255,
-    255,
-    255,
-    255,
-    255,
-    // whether it stays behind L
+    0, // CS
     255,
     255,
     255,
@@ -171,12 +164,7 @@ const LATE: [u8; 6 * classes::PLACES] = [
     255,
     255,
     255,
-    255,
-    0,
-    0,
-    0,
-    255,
-    0,
+    // Whether it stays behind L.
     255,
     255,
     255,
@@ -184,28 +172,20 @@ const LATE: [u8; 6 * classes::PLACES] = [
     255,
     255,
     255,
-    // what it becomes behind any other strong type
-    0,
-    0,
-    0,
-    0,
-    0,
-    0,
-    0,
-    0,
-    0,
-    18,
-    18,
-    0,
-    18,
-    0,
-    0,
-    0,
-    0,
-    0,
-    0,
-    0,
-    // what it becomes behind L
+    255,
+    0, // EN
+    0, // ES
+    0, // ET
+    255,
+    0, // CS
+    255,
+    255,
+    255,
+    255,
+    255,
+    255,
+    255,
+    // What it becomes behind any other strong type.
     0,
     0,
     0,
@@ -215,43 +195,64 @@ const LATE: [u8; 6 * classes::PLACES] = [
     0,
     0,
     0,
-    18,
-    18,
+    classes::ON, // ES
+    classes::ON, // ET
     0,
-    18,
-    0,
-    0,
+    classes::ON, // CS
     0,
     0,
     0,
     0,
     0,
-    // whether the strong type stays
     0,
-    255,
-    255,
     0,
-    255,
-    255,
-    255,
-    255,
-    255,
-    255,
-    255,
-    255,
-    255,
-    255,
-    255,
-    255,
-    255,
-    255,
-    255,
-    255,
-    // what it becomes
+    // What it becomes behind L.
     0,
     0,
     0,
-    3,
+    0,
+    0,
+    0,
+    0,
+    0,
+    classes::L, // EN
+    classes::ON, // ES
+    classes::ON, // ET
+    0,
+    classes::ON, // CS
+    0,
+    0,
+    0,
+    0,
+    0,
+    0,
+    0,
+    // Whether the strong type before stays, behind a type.
+    0, // L
+    255,
+    255,
+    0, // R
+    255,
+    255,
+    255,
+    255,
+    255,
+    255,
+    255,
+    255,
+    255,
+    255,
+    255,
+    255,
+    255,
+    255,
+    255,
+    255,
+    // What it becomes.
+    classes::L, // L
+    0,
+    0,
+    classes::R, // R
     0,
     0,
     0,
