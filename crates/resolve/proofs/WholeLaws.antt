@@ -1,5 +1,5 @@
 -- From the gathered levels and types to a level for every position. Assumes nothing.
-use Prim.Native.Nat.{ℕ, suc, _+_, _-_, _≤_}
+use Prim.Native.Nat.{ℕ, suc, _+_, _-_, _≤_, _<_}
 use native.Mathlib.Omega.{arith}
 use mathlib.Core.Path.{_≡_, refl, sym, ap, ap₂, _∙_}
 use mathlib.Core.Bool.{Bool, true, false}
@@ -7,12 +7,12 @@ use mathlib.Core.List.{List, [], _∷_, _++_}
 use lib.ListN.{length, getD, take, drop, length-append, length-drop}
 use lib.Seq.{take-at, drop-at, length-take-le, drop-drop, drop-append-add}
 use Rattle.rules.specs.Classes.{isRemoved}
-use Rattle.rules.specs.Explicit.{X1, explicitLevels, explicitTypes, kept, putBack}
+use Rattle.rules.specs.Explicit.{highestExplicit, X1, explicitLevels, explicitTypes, kept, putBack}
 use Rattle.rules.specs.Resolve.{resolveKept, resolvedLevels}
 use Rattle.laws.specs.Parts.{over}
 use Rattle.explicit.specs.Promises.{Gathered}
 use Rattle.explicit.proofs.ExplicitLaws.{length-levels, length-kept, length-kept-types, explicit-at-most-61}
-use Rattle.resolve.specs.Packed.{keptIn}
+use Rattle.laws.proofs.Passes.{by-test}
 
 -- ---- lengths
 length-put-back : (cs xs : List ℕ) → length (putBack cs xs) ≡ length cs
@@ -28,16 +28,14 @@ pub length-resolved : (base : ℕ) (cs : List ℕ) → length (resolvedLevels ba
 unfolding resolvedLevels
 length-resolved base cs = length-put-back cs _
 
--- as many are gathered as are kept
-pub length-kept-in : (cs xs : List ℕ) → length xs ≡ length cs → length (kept cs xs) ≡ keptIn cs
-unfolding kept keptIn
+-- of every list with an element for each position as many are kept
+pub length-kept-in : (cs xs : List ℕ) → length xs ≡ length cs → length (kept cs xs) ≡ length (kept cs cs)
+unfolding kept
 length-kept-in [] xs e = refl
 length-kept-in (c ∷ cs) [] e = absurd (omega arith)
-length-kept-in (c ∷ cs) (x ∷ xs) e = by (isRemoved c) refl (length-kept-in cs xs (omega arith))
-  where
-    by : (b : Bool) → isRemoved c ≡ b → length (kept cs xs) ≡ keptIn cs → length (kept (c ∷ cs) (x ∷ xs)) ≡ keptIn (c ∷ cs)
-    by true r h = rw r h
-    by false r h = rw r (ap suc h)
+length-kept-in (c ∷ cs) (x ∷ xs) e =
+    let more : length (kept cs xs) ≡ length (kept cs cs) = length-kept-in cs xs (omega arith) in
+    by-test (isRemoved c) (λ r. rw r more) (λ r. rw r (ap suc more))
 
 over-long : (written buffer : List ℕ) → length written ≤ length buffer → length (over written buffer) ≡ length buffer
 over-long written buffer h = length-append written (drop (length written) buffer) ∙ omega (arith, length-drop (length written) buffer)
@@ -76,10 +74,12 @@ module _ {base : ℕ} {cs ls₀ ts₀ ls ts : List ℕ} {n : ℕ} (g : Gathered 
   pub fronts-equal : length (take n ts) ≡ length (take n ls)
   fronts-equal = length-take-le n ts within-types ∙ sym (length-take-le n ls within-levels)
 
-  pub front-low : (k : ℕ) → getD (take n ls) k 0 ≤ 61
-  front-low k = rw front-levels (explicit-at-most-61 base cs small k)
+  pub front-low : (k : ℕ) → getD (take n ls) k 0 + 2 < 256
+  front-low k =
+      let low : getD (take n ls) k 0 ≤ highestExplicit = rw front-levels (explicit-at-most-61 base cs small k) in
+      omega arith
 
-  pub count-kept : n ≡ keptIn cs
+  pub count-kept : n ≡ length (kept cs cs)
   count-kept = g .count ∙ length-kept-in cs _ (length-levels base (X1 base) cs)
 
   -- the levels past the paragraph, as they were

@@ -1,13 +1,13 @@
-// X10: the runs, and the types at their boundaries.
+// X10: the runs, the types at their boundaries, and W, N and I over each run.
 ghost use mathlib.Core.Path.{_≡_};
-ghost use Prim.Native.Nat.{ℕ, _<_, _≤_};
+ghost use Prim.Native.Nat.{ℕ, _+_, _<_};
 ghost use lib.ListN.{length, getD};
 ghost use Rattle.rules.specs.Runs.{boundaryType};
 ghost use Rattle.rules.specs.Resolve.{resolveRun, resolveKept};
-ghost use Rattle.resolve.specs.RunEnd.{RunEnd};
+ghost use Rattle.runs.specs.RunEnd.{RunEnd};
 
 // The end of the run that begins at `from`. `i` is the last position known to belong to it.
-pub(crate) fn run_end(levels: &[u8], from: usize) -> usize
+fn run_end(levels: &[u8], from: usize) -> usize
     requires { ⌜ from < length (now levels) ⌝ }
     ensures { λ r. ⌜ RunEnd (now (levels .entry)) from r ⌝ }
 {
@@ -22,7 +22,7 @@ pub(crate) fn run_end(levels: &[u8], from: usize) -> usize
 }
 
 // The type at a boundary of runs: the direction of the higher of the two levels.
-pub(crate) fn boundary_type(level: u8, other: u8) -> u8
+pub fn boundary_type(level: u8, other: u8) -> u8
     ensures { λ r. ⌜ r ≡ boundaryType level other ⌝ }
 {
     if level <= other {
@@ -32,9 +32,9 @@ pub(crate) fn boundary_type(level: u8, other: u8) -> u8
 }
 
 // W, N and I on one run.
-pub(crate) fn resolve_run(types: &mut [u8], levels: &mut [u8], level: u8, sor: u8, eor: u8)
+pub fn resolve_run(types: &mut [u8], levels: &mut [u8], level: u8, sor: u8, eor: u8)
     requires { ⌜ length (now types) ≡ length (now levels) ⌝ }
-    requires { ⌜ level ≤ 61 ⌝ }
+    requires { ⌜ level + 2 < 256 ⌝ }
     ensures { λ _. ⌜ now (levels .exit) ≡ resolveRun level sor eor (now (types .entry)) ⌝ }
 {
     weak::weak(types, sor, eor);
@@ -42,9 +42,9 @@ pub(crate) fn resolve_run(types: &mut [u8], levels: &mut [u8], level: u8, sor: u
 }
 
 // Each run in turn. `before` is the level of the run before it, at first the base.
-pub(crate) fn resolve_kept(types: &mut [u8], levels: &mut [u8], base: u8)
+pub fn resolve_kept(types: &mut [u8], levels: &mut [u8], base: u8)
     requires { ⌜ length (now types) ≡ length (now levels) ⌝ }
-    requires { ⌜ ((k : ℕ) → getD (now levels) k 0 ≤ 61) ⌝ }
+    requires { ⌜ ((k : ℕ) → getD (now levels) k 0 + 2 < 256) ⌝ }
     ensures { λ _. ⌜ now (levels .exit) ≡ resolveKept base (now (levels .entry)) (now (types .entry)) ⌝ }
 {
     let mut before = base;

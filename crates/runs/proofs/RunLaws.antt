@@ -1,19 +1,22 @@
--- The laws of X10: how the end of a run is found, and the direction of a boundary.
+-- The laws of X10: how the end of a run is found, the direction of a boundary, and one run.
 -- Assumes nothing.
 use Prim.Native.Nat.{ℕ, suc, _+_, _-_, _≤_, _<_, max}
 use native.Mathlib.Nat.{add-zero}
 use native.Mathlib.Omega.{arith}
 use mathlib.Core.Path.{_≡_, refl, sym, ap, _∙_}
 use mathlib.Core.Bool.{Bool, true, false}
-use mathlib.Core.List.{List, [], _∷_}
+use mathlib.Core.List.{List, [], _∷_, map}
 use borrow.Author.Tests.{eq-eqb, ne-eqb}
 use lib.Dec.{eqb}
 use lib.ListN.{length, getD, drop, drop-of-length-le}
 use Rattle.laws.specs.Choice.{if_then_else_}
-use Rattle.rules.specs.Neutral.{levelDirection}
+use Rattle.rules.specs.Weak.{weak}
+use Rattle.rules.specs.Neutral.{N1, N2, levelDirection}
+use Rattle.rules.specs.Implicit.{implicitLevel}
 use Rattle.rules.specs.Runs.{oneLonger, runLengths, boundaryType}
+use Rattle.rules.specs.Resolve.{resolveRun}
 use Rattle.laws.proofs.Lists.{drop-next}
-use Rattle.resolve.specs.RunEnd.{RunEnd}
+use Rattle.runs.specs.RunEnd.{RunEnd}
 
 -- a first run longer by k
 pub longer : ℕ → List ℕ → List ℕ
@@ -103,3 +106,8 @@ module _ (ls : List ℕ) (from i : ℕ) (r : Running ls from i) where
 pub boundary-is : (l m : ℕ) → levelDirection (max l m) ≡ boundaryType l m
 unfolding levelDirection boundaryType
 boundary-is l m = refl
+
+-- ---- one run: W, then N with I, on what W left
+pub run-in-turn : (level sor eor : ℕ) (ts : List ℕ) {weaks out : List ℕ} → weaks ≡ weak sor eor ts → out ≡ map (implicitLevel level) (N2 level (N1 sor eor weaks)) → out ≡ resolveRun level sor eor ts
+unfolding resolveRun
+run-in-turn level sor eor ts first second = second ∙ ap (λ (r : List ℕ). map (implicitLevel level) (N2 level (N1 sor eor r))) first

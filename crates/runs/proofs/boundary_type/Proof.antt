@@ -1,12 +1,12 @@
--- `resolve::runs::boundary_type` meets its contract: the higher of the two levels is the one that is asked.
+-- `runs::boundary_type` meets its contract: the higher of the two levels is the one that is asked.
 -- Assumes nothing.
 use mathlib.Core.Path.{_∙_, ap}
 use native.Mathlib.Omega.{arith}
 use Rattle.rules.specs.Neutral.{levelDirection}
-use Rattle.resolve.proofs.RunLaws.{boundary-is}
+use Rattle.runs.proofs.RunLaws.{boundary-is}
 use borrow.Author.Needs.{needs}
-use Rattle.resolve.proofs.runs.boundary_type.Statement.{statement}
-use Rattle.resolve.proofs.runs.boundary_type.Tie as tie
+use Rattle.runs.proofs.boundary_type.Statement.{statement}
+use Rattle.runs.proofs.boundary_type.Tie as tie
 
 level-direction-requires : tie.Need-level-direction-requires
 level-direction-requires c κs = search needs

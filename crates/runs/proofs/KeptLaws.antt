@@ -11,7 +11,7 @@ use Rattle.rules.specs.Runs.{runLengths, boundaryType}
 use Rattle.rules.specs.Resolve.{resolveRun, resolveRuns, resolveKept}
 use Rattle.laws.proofs.Lists.{take-put-end}
 use Rattle.laws.proofs.Passes.{head-drop, getD-within}
-use Rattle.resolve.specs.RunEnd.{RunEnd}
+use Rattle.runs.specs.RunEnd.{RunEnd}
 
 runs-one : (base before : ℕ) (ls ts : List ℕ) (n : ℕ) (ns : List ℕ) → resolveRuns base before ls ts (n ∷ ns) ≡ resolveRun (headOr base ls) (boundaryType before (headOr base ls)) (boundaryType (headOr base ls) (headOr base (drop n ls))) (take n ts) ++ resolveRuns base (headOr base ls) (drop n ls) (drop n ts) ns
 unfolding resolveRuns

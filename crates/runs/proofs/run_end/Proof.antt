@@ -1,11 +1,11 @@
--- `resolve::runs::run_end` meets its contract: the invariant is that from `from` to i there is one level.
+-- `runs::run_end` meets its contract: the invariant is that from `from` to i there is one level.
 -- Assumes nothing.
 use Prim.Native.Nat.{_-_}
 use lib.ListN.{length}
-use Rattle.resolve.proofs.RunLaws.{Running, run-begun, run-on, run-other, run-last}
+use Rattle.runs.proofs.RunLaws.{Running, run-begun, run-on, run-other, run-last}
 use borrow.Author.Needs.{needs}
-use Rattle.resolve.proofs.runs.run_end.Statement.{statement}
-use Rattle.resolve.proofs.runs.run_end.Tie as tie
+use Rattle.runs.proofs.run_end.Statement.{statement}
+use Rattle.runs.proofs.run_end.Tie as tie
 
 abbrev Inv-loop : tie.InvT-loop
 Inv-loop levels from i₀ i = Running levels from i

@@ -1,12 +1,12 @@
--- `resolve::runs::resolve_kept` meets its contract: the invariant is that the runs before i are resolved and all from i on stands as it was.
+-- `runs::resolve_kept` meets its contract: the invariant is that the runs before i are resolved and all from i on stands as it was.
 -- Assumes nothing.
-use Rattle.resolve.proofs.KeptLaws.{resolving-begun, resolving-done, resolving-run, level-as-was, parts-equal, Resolving}
+use Rattle.runs.proofs.KeptLaws.{resolving-begun, resolving-done, resolving-run, level-as-was, parts-equal, Resolving}
 use Prim.Native.Nat.{_-_}
 use lib.ListN.{length}
 use native.Mathlib.Omega.{arith}
 use borrow.Author.Needs.{needs}
-use Rattle.resolve.proofs.runs.resolve_kept.Statement.{statement}
-use Rattle.resolve.proofs.runs.resolve_kept.Tie as tie
+use Rattle.runs.proofs.resolve_kept.Statement.{statement}
+use Rattle.runs.proofs.resolve_kept.Tie as tie
 
 abbrev Inv-loop : tie.InvT-loop
 Inv-loop types₀ levels₀ base before₀ i₀ types levels before i = Resolving types₀ levels₀ base types levels before i
