@@ -2,16 +2,15 @@
 -- by stretches.
 -- Assumes nothing.
 use Prim.Native.Nat.{ℕ}
-use mathlib.Core.Bool.{true, false, _&&_}
+use mathlib.Core.Bool.{true}
 use mathlib.Core.Path.{_≡_, refl, sym, ap, _∙_}
 use mathlib.Core.List.{List, [], _∷_}
-use borrow.Author.Tests.{eqb-true, ne-eqb}
-use lib.Dec.{eqb}
+use borrow.Author.Tests.{eqb-true}
 use lib.ListN.{length}
 use Rattle.laws.specs.Choice.{headOr}
-use Rattle.rules.specs.Classes.{EN, ES, ET, AN, CS}
+use Rattle.rules.specs.Classes.{ET}
 use Rattle.rules.specs.Weak.{W1, W2, W3, W4, W5, W6, W7, changeW1, changeW2, strongW2, changeW3, changeW4, changeW5, changeW6, changeW7, strongW7, isTerminator, weak}
-use Rattle.laws.proofs.Passes.{sweep, length-sweep, map-sweep, length-stretches, by-test}
+use Rattle.laws.proofs.Passes.{sweep, length-sweep, map-sweep, length-stretches}
 
 W1-sweep : (before : ℕ) (ts : List ℕ) → W1 before ts ≡ sweep (λ s t n. changeW1 s t) changeW1 0 before ts
 unfolding W1 sweep
@@ -31,21 +30,6 @@ W4-sweep : (before eor : ℕ) (ts : List ℕ) → W4 before eor ts ≡ sweep cha
 unfolding W4 sweep
 W4-sweep before eor [] = refl
 W4-sweep before eor (t ∷ ts) = ap (λ (r : List ℕ). changeW4 before t (headOr eor ts) ∷ r) (W4-sweep t eor ts)
-
-both : (before next number : ℕ) → (before ≡ next → ⊥) → eqb before number && eqb next number ≡ false
-both before next number apart =
-    by-test (eqb before number)
-    (λ first. rw first (ne-eqb next number (λ second. apart (eqb-true before number first ∙ sym second))))
-    (λ first. rw first)
-
--- between two different types W4 changes nothing
-pub W4-apart : (before t next : ℕ) → (before ≡ next → ⊥) → t ≡ changeW4 before t next
-unfolding changeW4
-W4-apart before t next apart =
-    rw (both before next EN apart, both before next AN apart)
-    (by-test (eqb t ES)
-    (λ es. rw es (by-test (eqb t CS) (λ cs. rw cs) (λ cs. rw cs)))
-    (λ es. rw es (by-test (eqb t CS) (λ cs. rw cs) (λ cs. rw cs))))
 
 -- every type of a stretch of ET is ET
 pub W5-same : (before next t : ℕ) → isTerminator t ≡ true → changeW5 before next t ≡ changeW5 before next ET

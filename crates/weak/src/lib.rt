@@ -4,53 +4,15 @@ ghost use mathlib.Core.Path.{_≡_};
 ghost use mathlib.Core.Bool.{false};
 ghost use Prim.Native.Nat.{_+_, _≤_};
 ghost use lib.ListN.{length, drop};
-ghost use Rattle.rules.specs.Weak.{W1, W2, W3, W4, W5, W6, W7, changeW1, changeW4, changeW5, isTerminator, weak};
-ghost use Rattle.rules.specs.Classes.{ET};
+ghost use Rattle.rules.specs.Weak.{W1, W2, W3, W4, W5, W6, W7, isTerminator, weak};
 ghost use Rattle.laws.specs.Any.{anyOf};
 ghost use Rattle.laws.specs.Stretches.{span};
 ghost use Rattle.weak_steps.specs.Tables.{early, late};
 ghost use Rattle.weak.specs.Touched.{isTouched};
 
-fn change_w1(before: u8, t: u8) -> u8
-    ensures { λ r. ⌜ r ≡ changeW1 before t ⌝ }
-{
-    if t == classes::NSM {
-        return before;
-    }
-    t
-}
-
-// Most types are no separators: that is asked first. One changes only between equal types.
-fn change_w4(before: u8, t: u8, next: u8) -> u8
-    ensures { λ r. ⌜ r ≡ changeW4 before t next ⌝ }
-{
-    if t == classes::CS {
-        if before != next {
-            return t;
-        }
-        if before == classes::EN {
-            return classes::EN;
-        }
-        if before == classes::AN {
-            return classes::AN;
-        }
-        return t;
-    }
-    if t == classes::ES {
-        if before != next {
-            return t;
-        }
-        if before == classes::EN {
-            return classes::EN;
-        }
-        return t;
-    }
-    t
-}
-
 // W1 to W4 in one pass. W4 asks for the next type as W3 left it, so a type is written when the next one is known; the
 // type before is the one before W4, carried since its place is written already.
-fn w1_to_w4(table: &[u8; 6 * classes::PLACES], types: &mut [u8], sor: u8, eor: u8)
+fn w1_to_w4(table: &[u8; weak_steps::ENTRIES], types: &mut [u8], sor: u8, eor: u8)
     requires { ⌜ now table ≡ early ⌝ }
     ensures { λ _. ⌜ now (types .exit) ≡ W4 sor eor (W3 (W2 sor (W1 sor (now (types .entry))))) ⌝ }
 {
@@ -58,21 +20,21 @@ fn w1_to_w4(table: &[u8; 6 * classes::PLACES], types: &mut [u8], sor: u8, eor: u
         return;
     }
     // at i: after W1, after W3, and the strong type for what follows; at i - 1: after W3
-    let mut own = change_w1(sor, types[0]);
+    let mut own = weak_steps::change_w1(sor, types[0]);
     let mut here = weak_steps::change(table, classes::AL, sor, own);
     let mut strong = weak_steps::carry(table, sor, own);
     let mut before = sor;
     let mut i = 0;
     while i + 1 < types.len() {
-        own = change_w1(own, types[i + 1]);
+        own = weak_steps::change_w1(own, types[i + 1]);
         let next = weak_steps::change(table, classes::AL, strong, own);
         strong = weak_steps::carry(table, strong, own);
-        types[i] = change_w4(before, here, next);
+        types[i] = weak_steps::change_w4(before, here, next);
         before = here;
         here = next;
         i += 1;
     }
-    types[i] = change_w4(before, here, eor);
+    types[i] = weak_steps::change_w4(before, here, eor);
 }
 
 // Where a stretch of ET ends that holds `from`; `from` itself where there is none.
@@ -89,22 +51,9 @@ fn terminators_end(types: &[u8], from: usize) -> usize
     i
 }
 
-// What a stretch of ET between two types becomes.
-fn change_w5(before: u8, next: u8) -> u8
-    ensures { λ r. ⌜ r ≡ changeW5 before next ET ⌝ }
-{
-    if before == classes::EN {
-        return classes::EN;
-    }
-    if next == classes::EN {
-        return classes::EN;
-    }
-    classes::ET
-}
-
 // W5 to W7 in one pass: a stretch of ET is filled with what all three make of it. Its end is sought once, from its
 // first place: the pass stays linear.
-fn w5_to_w7(table: &[u8; 6 * classes::PLACES], types: &mut [u8], sor: u8, eor: u8)
+fn w5_to_w7(table: &[u8; weak_steps::ENTRIES], types: &mut [u8], sor: u8, eor: u8)
     requires { ⌜ now table ≡ late ⌝ }
     ensures { λ _. ⌜ now (types .exit) ≡ W7 sor (W6 (W5 sor eor (now (types .entry)))) ⌝ }
 {
@@ -118,7 +67,12 @@ fn w5_to_w7(table: &[u8; 6 * classes::PLACES], types: &mut [u8], sor: u8, eor: u
             let next = parts::element_or(types, end, eor);
             parts::fill(
                 &mut types[i..end],
-                weak_steps::change(table, classes::L, strong, change_w5(before, next)),
+                weak_steps::change(
+                    table,
+                    classes::L,
+                    strong,
+                    weak_steps::change_w5(before, next),
+                ),
             );
             i = end;
         } else {

@@ -1,12 +1,12 @@
--- `weak::change_w4` meets its contract: the tests on the way to each return decide `changeW4`. Assumes nothing.
+-- `weak_steps::change_w4` meets its contract: the tests on the way to each return decide `changeW4`. Assumes nothing.
 use mathlib.Core.Path.{sym}
 use borrow.Author.Needs.{needs}
 use borrow.Author.Tests.{ne-eqb}
-use Rattle.weak.proofs.WeakLaws.{W4-apart}
+use Rattle.weak_steps.proofs.StepLaws.{W4-apart}
 use Rattle.laws.proofs.Tests.{tests}
 use Rattle.rules.specs.Weak.{changeW4}
-use Rattle.weak.proofs.change_w4.Statement.{statement}
-use Rattle.weak.proofs.change_w4.Tie as tie
+use Rattle.weak_steps.proofs.change_w4.Statement.{statement}
+use Rattle.weak_steps.proofs.change_w4.Tie as tie
 
 returns : tie.Need-returns
 returns c = W4-apart _ _ _ (c .if2 .taken)

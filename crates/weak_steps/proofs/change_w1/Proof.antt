@@ -1,9 +1,9 @@
--- `weak::change_w1` meets its contract: the tests on the way to each return decide `changeW1`. Assumes nothing.
+-- `weak_steps::change_w1` meets its contract: the tests on the way to each return decide `changeW1`. Assumes nothing.
 use borrow.Author.Needs.{needs}
 use Rattle.laws.proofs.Tests.{tests}
 use Rattle.rules.specs.Weak.{changeW1}
-use Rattle.weak.proofs.change_w1.Statement.{statement}
-use Rattle.weak.proofs.change_w1.Tie as tie
+use Rattle.weak_steps.proofs.change_w1.Statement.{statement}
+use Rattle.weak_steps.proofs.change_w1.Tie as tie
 
 returns : tie.Need-returns
 unfolding changeW1

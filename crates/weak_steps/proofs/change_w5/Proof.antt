@@ -1,9 +1,9 @@
--- `weak::change_w5` meets its contract: the tests on the way to each return decide `changeW5`. Assumes nothing.
+-- `weak_steps::change_w5` meets its contract: the tests on the way to each return decide `changeW5`. Assumes nothing.
 use borrow.Author.Needs.{needs}
 use Rattle.laws.proofs.Tests.{tests}
 use Rattle.rules.specs.Weak.{changeW5}
-use Rattle.weak.proofs.change_w5.Statement.{statement}
-use Rattle.weak.proofs.change_w5.Tie as tie
+use Rattle.weak_steps.proofs.change_w5.Statement.{statement}
+use Rattle.weak_steps.proofs.change_w5.Tie as tie
 
 returns : tie.Need-returns
 unfolding changeW5
