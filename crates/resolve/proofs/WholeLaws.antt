@@ -46,7 +46,7 @@ keptLevels base cs = kept cs (explicitLevels base (X1 base) cs)
 abbrev keptTypes : ℕ → List ℕ → List ℕ
 keptTypes base cs = kept cs (explicitTypes (X1 base) cs)
 
-module _ {base : ℕ} {cs ls₀ ts₀ ls ts : List ℕ} {n : ℕ} (g : Gathered base cs ls₀ ts₀ ls ts n) (small : base ≤ 1) (room : length cs ≤ length ls₀) (types-room : length cs ≤ length ts₀) where
+module _ {base : ℕ} {cs ls₀ ts₀ ls ts : List ℕ} {n : ℕ} (g : Gathered base cs ls₀ ts₀ ls ts n) (room : (base ≤ 1) × (length cs ≤ length ls₀) × (length cs ≤ length ts₀)) where
   few : n ≤ length cs
   few = omega (arith, g .count, length-kept cs (explicitLevels base (X1 base) cs))
 
@@ -54,16 +54,16 @@ module _ {base : ℕ} {cs ls₀ ts₀ ls ts : List ℕ} {n : ℕ} (g : Gathered 
   types-few = length-kept-types base cs ∙ sym (g .count)
 
   pub levels-as-long : length ls ≡ length ls₀
-  levels-as-long = ap length (g .levels) ∙ over-long (keptLevels base cs) ls₀ (omega (arith, g .count, few))
+  levels-as-long = ap length (g .levels) ∙ over-long (keptLevels base cs) ls₀ (omega (arith, g .count, few, room))
 
   types-as-long : length ts ≡ length ts₀
-  types-as-long = ap length (g .types) ∙ over-long (keptTypes base cs) ts₀ (omega (arith, types-few, few))
+  types-as-long = ap length (g .types) ∙ over-long (keptTypes base cs) ts₀ (omega (arith, types-few, few, room))
 
   pub within-levels : n ≤ length ls
-  within-levels = omega (arith, few, levels-as-long)
+  within-levels = omega (arith, few, levels-as-long, room)
 
   pub within-types : n ≤ length ts
-  within-types = omega (arith, few, types-as-long)
+  within-types = omega (arith, few, types-as-long, room)
 
   front-levels : take n ls ≡ keptLevels base cs
   front-levels = ap (take n) (g .levels) ∙ take-at _ _ n (sym (g .count))
@@ -76,7 +76,7 @@ module _ {base : ℕ} {cs ls₀ ts₀ ls ts : List ℕ} {n : ℕ} (g : Gathered 
 
   pub front-low : (k : ℕ) → getD (take n ls) k 0 + 2 < 256
   front-low k =
-      let low : getD (take n ls) k 0 ≤ highestExplicit = rw front-levels (explicit-at-most-61 base cs small k) in
+      let low : getD (take n ls) k 0 ≤ highestExplicit = rw front-levels (explicit-at-most-61 base cs (room .0) k) in
       omega arith
 
   pub count-kept : n ≡ length (kept cs cs)
@@ -104,4 +104,4 @@ module _ {base : ℕ} {cs ls₀ ts₀ ls ts : List ℕ} {n : ℕ} (g : Gathered 
   pub back-room : (ys : List ℕ) → length ys ≡ length (take n ls) → length cs ≤ length (ys ++ drop n ls)
   back-room ys l =
       let long : length ys ≡ n = l ∙ length-take-le n ls within-levels in
-      omega (arith, length-append ys (drop n ls), length-drop n ls, levels-as-long, within-levels)
+      omega (arith, length-append ys (drop n ls), length-drop n ls, levels-as-long, within-levels, room)

@@ -51,15 +51,24 @@ part-resolve-run-end-2 : tie.Need-part-resolve-run-end-2 Inv-loop μ-loop
 part-resolve-run-end-2 c = search needs
 
 resolve-run-requires : tie.Need-resolve-run-requires Inv-loop μ-loop
-resolve-run-requires c κs = (parts-equal (c .before .before .before .before .before .before .before .before .before .before .loop .inv) (c .before .before .before .before .before .before .run-end .ensures), omega (arith, level-as-was (c .before .before .before .before .before .before .before .before .before .before .loop .inv), c .before .before .before .before .before .before .before .before .before .before .before .before .before .pre .1 (c .before .before .before .before .before .before .before .before .before .before .loop .i)))
+resolve-run-requires c κs =
+    let ended = c .before .before .before .before .before .before in
+    let at = ended .before .before .before .before in (
+      parts-equal (at .loop .inv) (ended .run-end .ensures),
+      omega (arith, level-as-was (at .loop .inv), at .before .before .before .pre .1 (at .loop .i)),
+    )
 
 loop-less : tie.Need-loop-less Inv-loop μ-loop
 loop-less c = search needs
 
 loop-again : tie.Need-loop-again Inv-loop μ-loop
 loop-again c =
-    resolving-run (c .before .before .before .before .before .before .before .before .before .before .before .before .before .before .before .loop .inv) _ (c .before .before .before .before .before .before .before .before .before .before .before .run-end .ensures) _ _ _ (c .before .before .before .before .resolve-run .last .0) (c .before .before .before .before .resolve-run .last .1 .0) (c .before .before .before .before .before .before .before .before .before .element-or .ensures)
-    (c .before .before .before .before .before .before .before .before .boundary-type .ensures) (c .before .before .before .before .before .before .before .boundary-type2 .ensures) (c .before .before .before .before .resolve-run .kept .0) (c .before .before .before .before .resolve-run .kept .1 .0) (c .before .before .before .before .resolve-run .ensures)
+    let resolved = c .before .before .before .before in
+    let ended = resolved .before .before .before .before .before .before .before in
+    let at = ended .before .before .before .before in
+    resolving-run (at .loop .inv) _ (ended .run-end .ensures) _ _ _ (resolved .resolve-run .last .0) (resolved .resolve-run .last .1 .0)
+    (resolved .before .before .before .before .before .element-or .ensures) (resolved .before .before .before .before .boundary-type .ensures)
+    (resolved .before .before .before .boundary-type2 .ensures) (resolved .resolve-run .kept .0) (resolved .resolve-run .kept .1 .0) (resolved .resolve-run .ensures)
 
 same-length : tie.Need-same-length Inv-loop μ-loop
 same-length c = search needs
