@@ -2,7 +2,7 @@
 // of the definitions. Other code compares names; where it goes by their numbers, in a table or a range, a law says why.
 ghost use mathlib.Core.Path.{_≡_};
 ghost use Prim.Native.Nat.{_<_, min};
-ghost use Rattle.rules.specs.Classes.{isUnknown, isParagraphEnd, isOpening, isRemoved, isStrong, isNeutral, isSeparator, isBlank};
+ghost use Rattle.rules.specs.Classes.{isUnknown, isParagraphEnd, isOpening, isRemoved, isStrong, isNeutral, isSeparator, isBlank, lastPlace, places};
 
 pub const L: u8 = 0;
 
@@ -42,6 +42,11 @@ pub const WS: u8 = 17;
 
 pub const ON: u8 = 18;
 
+pub const HIGHEST: u8 = ON;
+
+// A table by class has a place for each class, and behind them one for every other number.
+pub const PLACES: usize = HIGHEST as usize + 2;
+
 // What a level buffer holds at a removed position.
 pub const REMOVED_LEVEL: u8 = 255;
 
@@ -49,7 +54,7 @@ pub const REMOVED_LEVEL: u8 = 255;
 pub fn is_unknown(c: u8) -> bool
     ensures { λ r. ⌜ r ≡ isUnknown c ⌝ }
 {
-    ON < c
+    HIGHEST < c
 }
 
 pub fn is_paragraph_end(c: u8) -> bool
@@ -127,13 +132,13 @@ pub fn is_blank(c: u8) -> bool
     c == WS
 }
 
-// Where a class stands in a table by class: at its own number, and all that is no class at the place behind them.
+// Where a class stands in a table by class: at its own number, and all that is no class at the last place.
 pub fn place_of(c: u8) -> usize
-    ensures { λ r. ⌜ r ≡ min c 19 ⌝ }
-    ensures { λ r. ⌜ r < 20 ⌝ }
+    ensures { λ r. ⌜ r ≡ min c lastPlace ⌝ }
+    ensures { λ r. ⌜ r < places ⌝ }
 {
-    if c < 19 {
+    if c <= HIGHEST {
         return c as usize;
     }
-    19
+    PLACES - 1
 }

@@ -10,3 +10,4 @@ pub mod Every
 pub mod Placing
 pub mod Sinking
 pub mod Upward
+pub mod Tables

@@ -4,3 +4,4 @@ pub mod Parts
 pub mod Stretches
 pub mod Any
 pub mod Sorting
+pub mod Tables

@@ -10,40 +10,46 @@ use lib.ListN.{length, getD, take, drop, set, length-take, length-set, take-appe
 use lib.Seq.{take-length, drop-length, take-set-le, take-take, getD-take, getD-set-same}
 use Rattle.laws.specs.Choice.{if_then_else_, headOr}
 use Rattle.rules.specs.Classes.{isRemoved}
-use Rattle.rules.specs.Explicit.{putBack}
+use Rattle.rules.specs.Explicit.{removedLevel, kept, putBack}
 use Rattle.laws.proofs.Lists.{drop-next, drop-set-next, take-next}
-use Rattle.resolve.specs.Packed.{keptIn}
+use Rattle.laws.proofs.Passes.{by-test}
 
 -- ---- how many are kept
-kept-one : (c : ℕ) (cs : List ℕ) → keptIn (c ∷ cs) ≡ (if isRemoved c then keptIn cs else suc (keptIn cs))
-unfolding keptIn
-kept-one c cs = refl
+unfoldable pub keptIn : List ℕ → ℕ
+keptIn cs = length (kept cs cs)
 
-put-one : (c : ℕ) (cs xs : List ℕ) → putBack (c ∷ cs) xs ≡ (if isRemoved c then 255 ∷ putBack cs xs else headOr 255 xs ∷ putBack cs (tail xs))
+pub kept-is : (cs : List ℕ) → keptIn cs ≡ length (kept cs cs)
+unfolding keptIn
+kept-is cs = refl
+
+kept-none : keptIn [] ≡ 0
+unfolding keptIn kept
+kept-none = refl
+
+pub kept-one : (c : ℕ) (cs : List ℕ) → keptIn (c ∷ cs) ≡ (if isRemoved c then keptIn cs else suc (keptIn cs))
+unfolding keptIn kept
+kept-one c cs = by-test (isRemoved c) (λ e. rw e) (λ e. rw e)
+
+put-one : (c : ℕ) (cs xs : List ℕ) → putBack (c ∷ cs) xs ≡ (if isRemoved c then removedLevel ∷ putBack cs xs else headOr removedLevel xs ∷ putBack cs (tail xs))
 unfolding putBack
 put-one c cs xs = refl
 
 kept-append : (xs ys : List ℕ) → keptIn (xs ++ ys) ≡ keptIn xs + keptIn ys
-unfolding keptIn
-kept-append [] ys = omega arith
-kept-append (x ∷ xs) ys = by (isRemoved x) refl (kept-append xs ys)
-  where
-    by : (b : Bool) → isRemoved x ≡ b → keptIn (xs ++ ys) ≡ keptIn xs + keptIn ys → keptIn (x ∷ (xs ++ ys)) ≡ keptIn (x ∷ xs) + keptIn ys
-    by true e h = rw e h
-    by false e h = rw e (omega arith)
+kept-append [] ys = rw kept-none (omega arith)
+kept-append (x ∷ xs) ys =
+    let more : keptIn (xs ++ ys) ≡ keptIn xs + keptIn ys = kept-append xs ys in
+    by-test (isRemoved x)
+    (λ e. rw (kept-one x (xs ++ ys), kept-one x xs, e) more)
+    (λ e. rw (kept-one x (xs ++ ys), kept-one x xs, e) (omega arith))
 
 pub kept-at-most : (cs : List ℕ) → keptIn cs ≤ length cs
-unfolding keptIn
-kept-at-most [] = omega arith
-kept-at-most (c ∷ cs) = by (isRemoved c) refl (kept-at-most cs)
-  where
-    by : (b : Bool) → isRemoved c ≡ b → keptIn cs ≤ length cs → keptIn (c ∷ cs) ≤ length (c ∷ cs)
-    by true e h = rw e (omega arith)
-    by false e h = rw e (omega arith)
+kept-at-most [] = rw kept-none (omega arith)
+kept-at-most (c ∷ cs) =
+    let most : keptIn cs ≤ length cs = kept-at-most cs in
+    by-test (isRemoved c) (λ e. rw (kept-one c cs, e) (omega arith)) (λ e. rw (kept-one c cs, e) (omega arith))
 
 kept-single : (c : ℕ) → keptIn (c ∷ []) ≡ (if isRemoved c then 0 else 1)
-unfolding keptIn
-kept-single c = refl
+kept-single c = kept-one c [] ∙ rw kept-none
 
 module _ (cs : List ℕ) (i : ℕ) (h : i < length cs) where
   kept-next : keptIn (take (i + 1) cs) ≡ keptIn (take i cs) + (if isRemoved (getD cs i 0) then 0 else 1)
@@ -79,9 +85,10 @@ pub record Placing (cs ls₀ : List ℕ) (count : ℕ) (ls : List ℕ) (i j : �
   pub front : take i ls ≡ take i ls₀
   pub back : drop i ls ≡ putBack (drop i cs) (drop j (take count ls₀)) ++ drop (length cs) ls₀
 
-pub placing-begun : (cs ls₀ : List ℕ) (count : ℕ) → count ≡ keptIn cs → length cs ≤ length ls₀ → Placing cs ls₀ count ls₀ (length cs) count
+pub placing-begun : (cs ls₀ : List ℕ) (count : ℕ) → count ≡ length (kept cs cs) → length cs ≤ length ls₀ → Placing cs ls₀ count ls₀ (length cs) count
 unfolding putBack
-placing-begun cs ls₀ count e h =
+placing-begun cs ls₀ count is h =
+    let e : count ≡ keptIn cs = is ∙ sym (kept-is cs) in
     record {
       within = omega arith;
       room = h;
@@ -122,18 +129,18 @@ module _ (cs ls₀ : List ℕ) (count : ℕ) (ls : List ℕ) (i j : ℕ) (p : Pl
       drop-next (set ls i v) i g
       ∙ ap₂ (λ (x : ℕ) (xs : List ℕ). x ∷ xs) (getD-set-same ls i v 0 h) (drop-set-next ls i v ∙ p .back)
 
-  pub place-removed : isRemoved (getD cs i 0) ≡ true → Placing cs ls₀ count (set ls i 255) i j
+  pub place-removed : isRemoved (getD cs i 0) ≡ true → Placing cs ls₀ count (set ls i removedLevel) i j
   place-removed r =
       let k : keptIn (take (i + 1) cs) ≡ keptIn (take i cs) + 0 = kept-next cs i inside ∙ rw r in
       record {
         within = omega (arith, inside);
         room = p .room;
-        long = length-set ls i 255 ∙ p .long;
+        long = length-set ls i removedLevel ∙ p .long;
         packed = p .packed;
         fits = p .fits;
         left = omega (arith, p .left);
-        front = front-shorter 255;
-        back = back-longer 255 ∙ sym (rw (drop-next cs i inside, put-one, r));
+        front = front-shorter removedLevel;
+        back = back-longer removedLevel ∙ sym (rw (drop-next cs i inside, put-one, r));
       }
 
   module _ (r : isRemoved (getD cs i 0) ≡ false) where

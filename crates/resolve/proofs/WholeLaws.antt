@@ -1,5 +1,5 @@
 -- From the gathered levels and types to a level for every position. Assumes nothing.
-use Prim.Native.Nat.{ℕ, suc, _+_, _-_, _≤_}
+use Prim.Native.Nat.{ℕ, suc, _+_, _-_, _≤_, _<_}
 use native.Mathlib.Omega.{arith}
 use mathlib.Core.Path.{_≡_, refl, sym, ap, ap₂, _∙_}
 use mathlib.Core.Bool.{Bool, true, false}
@@ -7,12 +7,12 @@ use mathlib.Core.List.{List, [], _∷_, _++_}
 use lib.ListN.{length, getD, take, drop, length-append, length-drop}
 use lib.Seq.{take-at, drop-at, length-take-le, drop-drop, drop-append-add}
 use Rattle.rules.specs.Classes.{isRemoved}
-use Rattle.rules.specs.Explicit.{X1, explicitLevels, explicitTypes, kept, putBack}
+use Rattle.rules.specs.Explicit.{highestExplicit, X1, explicitLevels, explicitTypes, kept, putBack}
 use Rattle.rules.specs.Resolve.{resolveKept, resolvedLevels}
 use Rattle.laws.specs.Parts.{over}
 use Rattle.explicit.specs.Promises.{Gathered}
 use Rattle.explicit.proofs.ExplicitLaws.{length-levels, length-kept, length-kept-types, explicit-at-most-61}
-use Rattle.resolve.specs.Packed.{keptIn}
+use Rattle.laws.proofs.Passes.{by-test}
 
 -- ---- lengths
 length-put-back : (cs xs : List ℕ) → length (putBack cs xs) ≡ length cs
@@ -28,16 +28,14 @@ pub length-resolved : (base : ℕ) (cs : List ℕ) → length (resolvedLevels ba
 unfolding resolvedLevels
 length-resolved base cs = length-put-back cs _
 
--- as many are gathered as are kept
-pub length-kept-in : (cs xs : List ℕ) → length xs ≡ length cs → length (kept cs xs) ≡ keptIn cs
-unfolding kept keptIn
+-- of every list with an element for each position as many are kept
+pub length-kept-in : (cs xs : List ℕ) → length xs ≡ length cs → length (kept cs xs) ≡ length (kept cs cs)
+unfolding kept
 length-kept-in [] xs e = refl
 length-kept-in (c ∷ cs) [] e = absurd (omega arith)
-length-kept-in (c ∷ cs) (x ∷ xs) e = by (isRemoved c) refl (length-kept-in cs xs (omega arith))
-  where
-    by : (b : Bool) → isRemoved c ≡ b → length (kept cs xs) ≡ keptIn cs → length (kept (c ∷ cs) (x ∷ xs)) ≡ keptIn (c ∷ cs)
-    by true r h = rw r h
-    by false r h = rw r (ap suc h)
+length-kept-in (c ∷ cs) (x ∷ xs) e =
+    let more : length (kept cs xs) ≡ length (kept cs cs) = length-kept-in cs xs (omega arith) in
+    by-test (isRemoved c) (λ r. rw r more) (λ r. rw r (ap suc more))
 
 over-long : (written buffer : List ℕ) → length written ≤ length buffer → length (over written buffer) ≡ length buffer
 over-long written buffer h = length-append written (drop (length written) buffer) ∙ omega (arith, length-drop (length written) buffer)
@@ -48,7 +46,7 @@ keptLevels base cs = kept cs (explicitLevels base (X1 base) cs)
 abbrev keptTypes : ℕ → List ℕ → List ℕ
 keptTypes base cs = kept cs (explicitTypes (X1 base) cs)
 
-module _ {base : ℕ} {cs ls₀ ts₀ ls ts : List ℕ} {n : ℕ} (g : Gathered base cs ls₀ ts₀ ls ts n) (small : base ≤ 1) (room : length cs ≤ length ls₀) (types-room : length cs ≤ length ts₀) where
+module _ {base : ℕ} {cs ls₀ ts₀ ls ts : List ℕ} {n : ℕ} (g : Gathered base cs ls₀ ts₀ ls ts n) (room : (base ≤ 1) × (length cs ≤ length ls₀) × (length cs ≤ length ts₀)) where
   few : n ≤ length cs
   few = omega (arith, g .count, length-kept cs (explicitLevels base (X1 base) cs))
 
@@ -56,16 +54,16 @@ module _ {base : ℕ} {cs ls₀ ts₀ ls ts : List ℕ} {n : ℕ} (g : Gathered 
   types-few = length-kept-types base cs ∙ sym (g .count)
 
   pub levels-as-long : length ls ≡ length ls₀
-  levels-as-long = ap length (g .levels) ∙ over-long (keptLevels base cs) ls₀ (omega (arith, g .count, few))
+  levels-as-long = ap length (g .levels) ∙ over-long (keptLevels base cs) ls₀ (omega (arith, g .count, few, room))
 
   types-as-long : length ts ≡ length ts₀
-  types-as-long = ap length (g .types) ∙ over-long (keptTypes base cs) ts₀ (omega (arith, types-few, few))
+  types-as-long = ap length (g .types) ∙ over-long (keptTypes base cs) ts₀ (omega (arith, types-few, few, room))
 
   pub within-levels : n ≤ length ls
-  within-levels = omega (arith, few, levels-as-long)
+  within-levels = omega (arith, few, levels-as-long, room)
 
   pub within-types : n ≤ length ts
-  within-types = omega (arith, few, types-as-long)
+  within-types = omega (arith, few, types-as-long, room)
 
   front-levels : take n ls ≡ keptLevels base cs
   front-levels = ap (take n) (g .levels) ∙ take-at _ _ n (sym (g .count))
@@ -76,10 +74,12 @@ module _ {base : ℕ} {cs ls₀ ts₀ ls ts : List ℕ} {n : ℕ} (g : Gathered 
   pub fronts-equal : length (take n ts) ≡ length (take n ls)
   fronts-equal = length-take-le n ts within-types ∙ sym (length-take-le n ls within-levels)
 
-  pub front-low : (k : ℕ) → getD (take n ls) k 0 ≤ 61
-  front-low k = rw front-levels (explicit-at-most-61 base cs small k)
+  pub front-low : (k : ℕ) → getD (take n ls) k 0 + 2 < 256
+  front-low k =
+      let low : getD (take n ls) k 0 ≤ highestExplicit = rw front-levels (explicit-at-most-61 base cs (room .0) k) in
+      omega arith
 
-  pub count-kept : n ≡ keptIn cs
+  pub count-kept : n ≡ length (kept cs cs)
   count-kept = g .count ∙ length-kept-in cs _ (length-levels base (X1 base) cs)
 
   -- the levels past the paragraph, as they were
@@ -104,4 +104,4 @@ module _ {base : ℕ} {cs ls₀ ts₀ ls ts : List ℕ} {n : ℕ} (g : Gathered 
   pub back-room : (ys : List ℕ) → length ys ≡ length (take n ls) → length cs ≤ length (ys ++ drop n ls)
   back-room ys l =
       let long : length ys ≡ n = l ∙ length-take-le n ls within-levels in
-      omega (arith, length-append ys (drop n ls), length-drop n ls, levels-as-long, within-levels)
+      omega (arith, length-append ys (drop n ls), length-drop n ls, levels-as-long, within-levels, room)

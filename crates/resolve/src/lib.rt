@@ -3,10 +3,10 @@ ghost use mathlib.Core.Path.{_≡_};
 ghost use Prim.Native.Nat.{_≤_};
 ghost use lib.ListN.{length};
 ghost use Rattle.laws.specs.Parts.{over};
+ghost use Rattle.rules.specs.Refusals.{longestParagraph};
 ghost use Rattle.rules.specs.Resolve.{resolvedLevels};
 
 mod plain;
-mod runs;
 mod scatter;
 
 // Gather, resolve, put back. The level buffer holds the packed levels meanwhile; `types` is room to work in.
@@ -33,14 +33,14 @@ fn resolve_in(classes: &[u8], base: u8, levels: &mut [u8], types: &mut [u8])
 
 // A short label does not pay for the room of the longest paragraph.
 pub fn resolve_levels(classes: &[u8], base: u8, levels: &mut [u8])
-    requires { ⌜ (base ≤ 1) × (length (now classes) ≤ length (now levels)) × (length (now classes) ≤ 4096) ⌝ }
+    requires { ⌜ (base ≤ 1) × (length (now classes) ≤ length (now levels)) × (length (now classes) ≤ longestParagraph) ⌝ }
     ensures { λ _. ⌜ now (levels .exit) ≡ over (resolvedLevels base (now (classes .entry))) (now (levels .entry)) ⌝ }
 {
     if classes.len() <= 64 {
-        let mut types = [0u8; 64];
-        resolve_in(classes, base, levels, &mut types);
+        let mut few = [0u8; 64];
+        resolve_in(classes, base, levels, &mut few);
         return;
     }
-    let mut types = [0u8; 4096];
-    resolve_in(classes, base, levels, &mut types);
+    let mut many = [0u8; 4096];
+    resolve_in(classes, base, levels, &mut many);
 }

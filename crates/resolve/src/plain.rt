@@ -7,8 +7,6 @@ ghost use Rattle.rules.specs.Classes.{isRemoved};
 ghost use Rattle.laws.specs.Parts.{over};
 ghost use Rattle.rules.specs.Resolve.{resolvedLevels};
 ghost use Rattle.laws.specs.Any.{anyOf};
-use crate::runs::boundary_type;
-use crate::runs::resolve_run;
 
 // Beyond both its ends the level is the base too.
 pub(crate) fn resolve_plain(classes: &[u8], base: u8, levels: &mut [u8], types: &mut [u8])
@@ -17,7 +15,7 @@ pub(crate) fn resolve_plain(classes: &[u8], base: u8, levels: &mut [u8], types: 
     ensures { λ _. ⌜ now (levels .exit) ≡ over (resolvedLevels base (now (classes .entry))) (now (levels .entry)) ⌝ }
 {
     let count = classes.len();
-    let side = boundary_type(base, base);
+    let side = runs::boundary_type(base, base);
     parts::copy(classes, types);
-    resolve_run(&mut types[..count], &mut levels[..count], base, side, side);
+    runs::resolve_run(&mut types[..count], &mut levels[..count], base, side, side);
 }

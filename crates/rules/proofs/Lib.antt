@@ -1,5 +1,4 @@
 -- Theorems about the definitions alone.
-pub mod Table
 pub mod LineLaws
 pub mod EndLaws
 pub mod RefusalTable

@@ -1,5 +1,5 @@
 -- The directional classes by their house numbers, and each question that the rules ask of a class.
-use Prim.Native.Nat.{ℕ}
+use Prim.Native.Nat.{ℕ, _+_}
 use mathlib.Core.Bool.{Bool, _||_}
 use lib.Dec.{eqb, ltb}
 
@@ -63,6 +63,13 @@ ON = 18
 -- the classes are 0 to 18: above the highest, a number is no class
 abbrev pub highestClass : ℕ
 highestClass = ON
+
+-- a table by class has a place for each class, and behind them one for every other number
+abbrev pub lastPlace : ℕ
+lastPlace = highestClass + 1
+
+abbrev pub places : ℕ
+places = lastPlace + 1
 
 unfoldable pub isUnknown : ℕ → Bool
 isUnknown c = ltb highestClass c

@@ -9,7 +9,7 @@ use Rattle.rules.specs.Paragraph.{P2, P3, baseByText, baseOf}
 use Rattle.rules.specs.Explicit.{removedLevel, X1, leastGreaterOdd, leastGreaterEven, opening, closing, X2, X3, X4, X5, X6level, X6type, X7, verdict, after, step, levelHere, typeHere, explicitLevels, explicitTypes, kept, putBack}
 use Rattle.rules.specs.Runs.{oneLonger, runLengths, boundaryType}
 use Rattle.laws.specs.Stretches.{afterStretch, stretches}
-use Rattle.rules.specs.Weak.{W1, W2, changeW3, W3, changeW4, W4, isTerminator, changeW5, W5, changeW6, W6, W7, weak}
+use Rattle.rules.specs.Weak.{changeW1, W1, changeW2, strongW2, W2, changeW3, W3, changeW4, W4, isTerminator, changeW5, W5, changeW6, W6, changeW7, isSide, strongW7, W7, weak}
 use Rattle.rules.specs.Neutral.{direction, changeN1, N1, levelDirection, changeN2, N2}
 use Rattle.rules.specs.Implicit.{I1, I2, implicitLevel}
 use Rattle.rules.specs.Resolve.{resolveRun, resolveRuns, resolveKept, resolvedLevels}
@@ -77,5 +77,5 @@ computed r =
     }
 
 pub table-holds : map computed table ≡ table
-unfolding isUnknown isParagraphEnd isOpening isRemoved isStrong isNeutral isSeparator isBlank P2 P3 baseByText baseOf X1 leastGreaterOdd leastGreaterEven opening closing X2 X3 X4 X5 X6level X6type X7 verdict after step levelHere typeHere explicitLevels explicitTypes kept putBack oneLonger runLengths boundaryType W1 W2 changeW3 W3 changeW4 W4 afterStretch stretches isTerminator changeW5 W5 changeW6 W6 W7 weak direction changeN1 N1 levelDirection changeN2 N2 I1 I2 implicitLevel resolveRun resolveRuns resolveKept resolvedLevels blankAhead L1 items pass passes highest lowestOdd L2 part lineLevels lineOrder checkSome checkLength faultAt firstFault checkClasses checkRequest checkBase checkLevelRoom isBadLevel firstBadLevel checkLine checkOrderRoom checksOfLevels checksOfOrder checksOfLine levelsAnswer resolveBuffer lineAnswer lineBuffer
+unfolding isUnknown isParagraphEnd isOpening isRemoved isStrong isNeutral isSeparator isBlank P2 P3 baseByText baseOf X1 leastGreaterOdd leastGreaterEven opening closing X2 X3 X4 X5 X6level X6type X7 verdict after step levelHere typeHere explicitLevels explicitTypes kept putBack oneLonger runLengths boundaryType changeW1 W1 changeW2 strongW2 W2 changeW3 W3 changeW4 W4 afterStretch stretches isTerminator changeW5 W5 changeW6 W6 changeW7 isSide strongW7 W7 weak direction changeN1 N1 levelDirection changeN2 N2 I1 I2 implicitLevel resolveRun resolveRuns resolveKept resolvedLevels blankAhead L1 items pass passes highest lowestOdd L2 part lineLevels lineOrder checkSome checkLength faultAt firstFault checkClasses checkRequest checkBase checkLevelRoom isBadLevel firstBadLevel checkLine checkOrderRoom checksOfLevels checksOfOrder checksOfLine levelsAnswer resolveBuffer lineAnswer lineBuffer
 table-holds = refl

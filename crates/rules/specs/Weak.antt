@@ -8,15 +8,24 @@ use Rattle.laws.specs.Choice.{if_then_else_, headOr}
 use Rattle.rules.specs.Classes.{L, R, AL, EN, ES, ET, AN, CS, NSM, ON, isStrong}
 
 -- W1: NSM takes the type before it, at the start of the run the start type
+unfoldable pub changeW1 : ℕ → ℕ → ℕ
+changeW1 before t = if eqb t NSM then before else t
+
 unfoldable pub W1 : ℕ → List ℕ → List ℕ
 W1 before [] = []
-W1 before (t ∷ ts) = if eqb t NSM then before ∷ W1 before ts else t ∷ W1 t ts
+W1 before (t ∷ ts) = let new = changeW1 before t in new ∷ W1 new ts
 
 -- W2: EN becomes AN where the nearest strong type before (R, L, AL or the start type) is AL
+unfoldable pub changeW2 : ℕ → ℕ → ℕ
+changeW2 strong t = if eqb t EN && eqb strong AL then AN else t
+
+-- and the nearest strong type before what follows
+unfoldable pub strongW2 : ℕ → ℕ → ℕ
+strongW2 strong t = if isStrong t then t else strong
+
 unfoldable pub W2 : ℕ → List ℕ → List ℕ
 W2 strong [] = []
-W2 strong (t ∷ ts) =
-    (if eqb t EN && eqb strong AL then AN else t) ∷ W2 (if isStrong t then t else strong) ts
+W2 strong (t ∷ ts) = changeW2 strong t ∷ W2 (strongW2 strong t) ts
 
 -- W3: AL becomes R
 unfoldable pub changeW3 : ℕ → ℕ
@@ -54,10 +63,18 @@ unfoldable pub W6 : List ℕ → List ℕ
 W6 ts = map changeW6 ts
 
 -- W7: EN becomes L where the nearest strong type before (R, L or the start type) is L
+unfoldable pub changeW7 : ℕ → ℕ → ℕ
+changeW7 strong t = if eqb t EN && eqb strong L then L else t
+
+unfoldable pub isSide : ℕ → Bool
+isSide t = eqb t R || eqb t L
+
+unfoldable pub strongW7 : ℕ → ℕ → ℕ
+strongW7 strong t = if isSide t then t else strong
+
 unfoldable pub W7 : ℕ → List ℕ → List ℕ
 W7 strong [] = []
-W7 strong (t ∷ ts) =
-    (if eqb t EN && eqb strong L then L else t) ∷ W7 (if eqb t R || eqb t L then t else strong) ts
+W7 strong (t ∷ ts) = changeW7 strong t ∷ W7 (strongW7 strong t) ts
 
 -- the weak types of a run with its start and end types
 unfoldable pub weak : ℕ → ℕ → List ℕ → List ℕ

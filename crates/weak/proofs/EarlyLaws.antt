@@ -7,14 +7,15 @@ use mathlib.Core.Path.{_≡_, refl, sym, ap, _∙_}
 use mathlib.Core.List.{List, [], _∷_, _++_, append-nil}
 use lib.ListN.{length, getD, take, drop, set, length-set, drop-of-length-le}
 use lib.Seq.{take-all, drop-set-lt}
-use Rattle.rules.specs.Weak.{W1, W2, W3, W4, changeW3, changeW4}
+use Rattle.rules.specs.Classes.{AL}
+use Rattle.rules.specs.Weak.{W1, W2, W3, W4, changeW1, changeW2, strongW2, changeW3, changeW4}
 use Rattle.laws.proofs.Lists.{take-set-next, drop-next}
-use Rattle.weak.specs.Steps.{changeW1, changeW2, strongW2}
-use Rattle.weak.proofs.WeakLaws.{W1-cons}
+use Rattle.weak_steps.specs.Tables.{early, changed, carried}
+use Rattle.weak_steps.proofs.TableLaws.{early-change, early-carry}
 
-W2-W3-cons : (strong t : ℕ) (ts : List ℕ) → W3 (W2 strong (t ∷ ts)) ≡ changeW3 (changeW2 strong t) ∷ W3 (W2 (strongW2 strong t) ts)
-unfolding W2 W3 changeW2 strongW2
-W2-W3-cons strong t ts = refl
+W1-to-W3-cons : (before strong t : ℕ) (ts : List ℕ) → W3 (W2 strong (W1 before (t ∷ ts))) ≡ changeW3 (changeW2 strong (changeW1 before t)) ∷ W3 (W2 (strongW2 strong (changeW1 before t)) (W1 (changeW1 before t) ts))
+unfolding W1 W2 W3
+W1-to-W3-cons before strong t ts = refl
 
 W1-to-W3-nil : (own strong : ℕ) → W3 (W2 strong (W1 own [])) ≡ []
 unfolding W1 W2 W3
@@ -24,11 +25,8 @@ W1-to-W3-nil own strong = refl
 W1-to-W3-next : (xs : List ℕ) (i before strong own here after : ℕ) → i < length xs → own ≡ changeW1 before (getD xs i 0) → here ≡ changeW3 (changeW2 strong own) → after ≡ strongW2 strong own → W3 (W2 strong (W1 before (drop i xs))) ≡ here ∷ W3 (W2 after (W1 own (drop (i + 1) xs)))
 W1-to-W3-next xs i before strong own here after below is-own is-here is-after =
     ap (λ (r : List ℕ). W3 (W2 strong (W1 before r))) (drop-next xs i below)
-    ∙ ap (λ (r : List ℕ). W3 (W2 strong r)) (W1-cons before (getD xs i 0) (drop (i + 1) xs))
-    ∙ ap (λ (t : ℕ). W3 (W2 strong (t ∷ W1 t (drop (i + 1) xs)))) (sym is-own)
-    ∙ W2-W3-cons strong own (W1 own (drop (i + 1) xs))
-    ∙ ap (λ (t : ℕ). t ∷ W3 (W2 (strongW2 strong own) (W1 own (drop (i + 1) xs)))) (sym is-here)
-    ∙ ap (λ (s : ℕ). here ∷ W3 (W2 s (W1 own (drop (i + 1) xs)))) (sym is-after)
+    ∙ W1-to-W3-cons before strong (getD xs i 0) (drop (i + 1) xs)
+    ∙ rw (is-here, is-after, is-own)
 
 W4-two : (before eor here next : ℕ) (ts : List ℕ) → W4 before eor (here ∷ next ∷ ts) ≡ changeW4 before here next ∷ W4 here eor (next ∷ ts)
 unfolding W4
@@ -48,28 +46,30 @@ early-none sor eor (t ∷ ts) none = absurd (omega arith)
 pub record Early (sor eor : ℕ) (xs₀ xs : List ℕ) (own here strong before i : ℕ) : Type 0 where
   pub within : i < length xs₀
   pub long : length xs ≡ length xs₀
+  pub fits : strong < 256
   pub joined : take i xs ++ W4 before eor (here ∷ W3 (W2 strong (W1 own (drop (i + 1) xs)))) ≡ W4 sor eor (W3 (W2 sor (W1 sor xs₀)))
 
 module _ {sor eor : ℕ} where
-  pub early-begun : (xs : List ℕ) {own here strong : ℕ} → (length xs ≡ 0 → ⊥) → own ≡ changeW1 sor (getD xs 0 0) → here ≡ changeW3 (changeW2 sor own) → strong ≡ strongW2 sor own → Early sor eor xs xs own here strong sor 0
-  early-begun xs {own} {here} {strong} some is-own is-here is-strong =
+  pub early-begun : (xs : List ℕ) {table : List ℕ} {own here strong : ℕ} → table ≡ early → own < 256 → sor < 256 → strong < 256 → (length xs ≡ 0 → ⊥) → own ≡ changeW1 sor (getD xs 0 0) → here ≡ changed table AL sor own → strong ≡ carried table sor own → Early sor eor xs xs own here strong sor 0
+  early-begun xs {table} {own} {here} {strong} tabled own-fits sor-fits strong-fits some is-own is-here is-strong =
       let none : ¬ (length xs ≡ 0) = some in
       let below : 0 < length xs = omega arith in
-      record { within = below; long = refl; joined = ap (W4 sor eor) (sym (W1-to-W3-next xs 0 sor sor own here strong below is-own is-here is-strong)) }
+      record { within = below; long = refl; fits = strong-fits; joined = ap (W4 sor eor) (sym (W1-to-W3-next xs 0 sor sor own here strong below is-own (early-change sor own tabled own-fits is-here) (early-carry sor own tabled sor-fits is-strong))) }
 
   module _ {xs₀ xs : List ℕ} {own here strong before i : ℕ} (now : Early sor eor xs₀ xs own here strong before i) where
-    pub early-next : {own′ next strong′ v : ℕ} → i + 1 < length xs → own′ ≡ changeW1 own (getD xs (i + 1) 0) → next ≡ changeW3 (changeW2 strong own′) → strong′ ≡ strongW2 strong own′ → v ≡ changeW4 before here next → Early sor eor xs₀ (set xs i v) own′ next strong′ here (i + 1)
-    early-next {own′} {next} {strong′} {v} below is-own is-next is-strong wrote =
+    pub early-next : {table : List ℕ} {own′ next strong′ v : ℕ} → table ≡ early → own′ < 256 → strong′ < 256 → i + 1 < length xs → own′ ≡ changeW1 own (getD xs (i + 1) 0) → next ≡ changed table AL strong own′ → strong′ ≡ carried table strong own′ → v ≡ changeW4 before here next → Early sor eor xs₀ (set xs i v) own′ next strong′ here (i + 1)
+    early-next {table} {own′} {next} {strong′} {v} tabled own-fits strong-fits below is-own is-next is-strong wrote =
         let room : i < length xs = omega arith in
         let rest : List ℕ = W3 (W2 strong′ (W1 own′ (drop (i + 1 + 1) xs))) in
         record {
           within = omega (arith, now .long);
           long = length-set xs i v ∙ now .long;
+          fits = strong-fits;
           joined =
               ap (λ (r : List ℕ). take (i + 1) (set xs i v) ++ W4 here eor (next ∷ W3 (W2 strong′ (W1 own′ r)))) (drop-set-lt (i + 1 + 1) xs i v (omega arith))
               ∙ take-set-next xs i v (W4 here eor (next ∷ rest)) room
               ∙ ap (λ (t : ℕ). take i xs ++ (t ∷ W4 here eor (next ∷ rest))) wrote
-              ∙ ap (λ (r : List ℕ). take i xs ++ r) (sym (W4-two before eor here next rest) ∙ ap (λ (r : List ℕ). W4 before eor (here ∷ r)) (sym (W1-to-W3-next xs (i + 1) own strong own′ next strong′ below is-own is-next is-strong)))
+              ∙ ap (λ (r : List ℕ). take i xs ++ r) (sym (W4-two before eor here next rest) ∙ ap (λ (r : List ℕ). W4 before eor (here ∷ r)) (sym (W1-to-W3-next xs (i + 1) own strong own′ next strong′ below is-own (early-change strong own′ tabled own-fits is-next) (early-carry strong own′ tabled (now .fits) is-strong))))
               ∙ now .joined;
         }
 

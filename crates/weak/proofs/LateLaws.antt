@@ -11,16 +11,18 @@ use borrow.Rule.Slice.PartMut.{midOf, putMid, same-len-mid, mid-len, drop-put}
 use lib.Dec.{eqb}
 use lib.ListN.{length, getD, take, drop, set, replicate, length-set, length-replicate, drop-of-length-le}
 use lib.Seq.{take-all, getD-drop, drop-drop}
-use Rattle.rules.specs.Classes.{EN, ES, ET, CS}
+use Rattle.rules.specs.Classes.{L, EN, ES, ET, CS}
 use Rattle.laws.specs.Stretches.{afterStretch, stretches, span}
-use Rattle.rules.specs.Weak.{W5, W6, W7, changeW5, changeW6, isTerminator}
+use Rattle.rules.specs.Weak.{W5, W6, W7, changeW5, changeW6, changeW7, isSide, strongW7, isTerminator}
 use Rattle.laws.proofs.Lists.{take-set-next, drop-next, drop-set-next, take-put-end}
 use Rattle.laws.proofs.Passes.{span-end, after-span, stretches-nil, stretches-over, filled, by-test}
-use Rattle.weak.specs.Steps.{changeW7, strongW7}
+use Rattle.weak_steps.specs.Tables.{changed, carried}
+use Rattle.weak_steps.specs.Tables as tables
+use Rattle.weak_steps.proofs.TableLaws.{late-change, late-carry}
 use Rattle.weak.proofs.WeakLaws.{W5-same}
 
 W6-W7-cons : (strong t : ℕ) (ts : List ℕ) → W7 strong (W6 (t ∷ ts)) ≡ changeW7 strong (changeW6 t) ∷ W7 (strongW7 strong (changeW6 t)) (W6 ts)
-unfolding W6 W7 changeW7 strongW7
+unfolding W6 W7
 W6-W7-cons strong t ts = refl
 
 W6-W7-nil : (strong : ℕ) → W7 strong (W6 []) ≡ []
@@ -29,7 +31,7 @@ W6-W7-nil strong = refl
 
 -- ES, ET, CS and ON are no R and no L
 strong-before-W6 : (strong t : ℕ) → strongW7 strong (changeW6 t) ≡ strongW7 strong t
-unfolding strongW7 changeW6
+unfolding strongW7 isSide changeW6
 strong-before-W6 strong t =
     by-test (eqb t ES)
     (λ es. rw (eqb-true t ES es))
@@ -41,7 +43,7 @@ strong-before-W6 strong t =
 
 -- neither does EN or ET, what W5 leaves of a stretch, carry anything on
 strong-over-stretch : (strong before next : ℕ) → strongW7 strong (changeW6 (changeW5 before next ET)) ≡ strong
-unfolding strongW7 changeW6 changeW5
+unfolding strongW7 isSide changeW6 changeW5
 strong-over-stretch strong before next =
     by-test (eqb before EN)
     (λ first. rw first)
@@ -95,28 +97,30 @@ late-stretch eor before strong xs i e next order ends is-next =
 pub record Late (sor eor : ℕ) (xs₀ xs : List ℕ) (before strong i : ℕ) : Type 0 where
   pub within : i ≤ length xs₀
   pub long : length xs ≡ length xs₀
+  pub fits : strong < 256
   pub joined : take i xs ++ late eor before strong (drop i xs) ≡ late eor sor sor xs₀
 
 module _ {sor eor : ℕ} where
-  pub late-begun : (xs : List ℕ) → Late sor eor xs xs sor sor 0
-  late-begun xs = record { within = omega arith; long = refl; joined = refl }
+  pub late-begun : (xs : List ℕ) → sor < 256 → Late sor eor xs xs sor sor 0
+  late-begun xs h = record { within = omega arith; long = refl; fits = h; joined = refl }
 
   module _ {xs₀ xs : List ℕ} {before strong i : ℕ} (now : Late sor eor xs₀ xs before strong i) where
     -- a type that is no ET is written by itself, and is the one before what follows
-    pub late-next : {v strong′ : ℕ} → i < length xs → isTerminator (getD xs i 0) ≡ false → v ≡ changeW7 strong (changeW6 (getD xs i 0)) → strong′ ≡ strongW7 strong (getD xs i 0) → Late sor eor xs₀ (set xs i v) (getD xs i 0) strong′ (i + 1)
-    late-next {v} {strong′} below other wrote carried =
+    pub late-next : {table : List ℕ} {v strong′ : ℕ} → table ≡ tables.late → getD xs i 0 < 256 → strong′ < 256 → i < length xs → isTerminator (getD xs i 0) ≡ false → v ≡ changed table L strong (getD xs i 0) → strong′ ≡ carried table strong (getD xs i 0) → Late sor eor xs₀ (set xs i v) (getD xs i 0) strong′ (i + 1)
+    late-next {table} {v} {strong′} tabled type-fits strong-fits below other wrote carries =
         record {
           within = omega (arith, now .long);
           long = length-set xs i v ∙ now .long;
+          fits = strong-fits;
           joined =
               ap (λ (r : List ℕ). take (i + 1) (set xs i v) ++ late eor (getD xs i 0) strong′ r) (drop-set-next xs i v)
               ∙ take-set-next xs i v (late eor (getD xs i 0) strong′ (drop (i + 1) xs)) below
-              ∙ ap (λ (r : List ℕ). take i xs ++ r) (rw (wrote, carried) (sym (late-over eor before strong xs i below other)))
+              ∙ ap (λ (r : List ℕ). take i xs ++ r) (rw (late-change strong (getD xs i 0) tabled type-fits wrote, late-carry strong (getD xs i 0) tabled (now .fits) carries) (sym (late-over eor before strong xs i below other)))
               ∙ now .joined;
         }
 
     -- a stretch that begins at i and ends at e is filled by what the three rules make of it
-    module _ {ys : List ℕ} {e next v : ℕ} (ends : e ≡ i + span isTerminator (drop i xs)) (is-next : next ≡ getD xs e eor) (wrote : v ≡ changeW7 strong (changeW6 (changeW5 before next ET))) (fill : ys ≡ replicate (length (midOf i (e - i) xs)) v) where
+    module _ {table ys : List ℕ} {e next new v : ℕ} (tabled : table ≡ tables.late) (new-fits : new < 256) (ends : e ≡ i + span isTerminator (drop i xs)) (is-next : next ≡ getD xs e eor) (is-new : new ≡ changeW5 before next ET) (wrote : v ≡ changed table L strong new) (fill : ys ≡ replicate (length (midOf i (e - i) xs)) v) where
       bounds : (i ≤ e) × (e ≤ length xs)
       bounds = span-end isTerminator xs i e (omega (arith, now .within, now .long)) ends
 
@@ -129,13 +133,14 @@ module _ {sor eor : ℕ} where
       the-stretch : late eor before strong (drop i xs) ≡ ys ++ late eor before strong (drop e xs)
       the-stretch =
           late-stretch eor before strong xs i e next (bounds .0) ends is-next
-          ∙ ap (λ (r : List ℕ). r ++ late eor before strong (drop e xs)) (ap (replicate (e - i)) (sym wrote) ∙ sym the-fill)
+          ∙ ap (λ (r : List ℕ). r ++ late eor before strong (drop e xs)) (ap (replicate (e - i)) (sym (late-change strong new tabled new-fits wrote ∙ ap (λ (t : ℕ). changeW7 strong (changeW6 t)) is-new)) ∙ sym the-fill)
 
       pub late-filled : Late sor eor xs₀ (putMid i (e - i) xs ys) before strong e
       late-filled =
           record {
             within = omega (arith, bounds, now .long);
             long = same-len-mid i (e - i) xs ys (length-fill ∙ sym (mid-len i e xs (bounds .1))) ∙ now .long;
+            fits = now .fits;
             joined =
                 ap (λ (r : List ℕ). r ++ late eor before strong (drop e (putMid i (e - i) xs ys))) (take-put-end xs ys i e (bounds .0) (bounds .1) length-fill)
                 ∙ ap (λ (r : List ℕ). (take i xs ++ ys) ++ late eor before strong r) (drop-put i e xs ys (bounds .0) (bounds .1) length-fill)

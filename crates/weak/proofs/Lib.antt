@@ -1,6 +1,5 @@
 -- What holds of the weak rules.
 pub mod WeakLaws
-pub mod TableLaws
 pub mod EarlyLaws
 pub mod LateLaws
 pub mod TouchedLaws

@@ -2,21 +2,21 @@
 -- Assumes nothing.
 use Prim.Native.Nat.{ℕ, _+_, _-_, _≤_, _<_}
 use native.Mathlib.Omega.{arith}
-use mathlib.Core.Bool.{Bool, true, false, _||_, _&&_}
+use mathlib.Core.Bool.{Bool, true, false}
 use mathlib.Core.Path.{_≡_, refl, sym, ap, ap₂, _∙_}
 use mathlib.Core.List.{List, [], _∷_, _++_}
 use borrow.Author.Tests.{eqb-true}
 use lib.Dec.{eqb}
 use lib.ListN.{length, getD, take, drop, take-append-drop, drop-of-length-le}
-use Rattle.laws.specs.Choice.{if_then_else_, headOr}
-use Rattle.rules.specs.Classes.{L, R, AL, EN, ES, ET, AN, CS, NSM, isStrong}
+use Rattle.laws.specs.Choice.{headOr}
+use Rattle.rules.specs.Classes.{AL, EN, ES, ET, CS, NSM}
 use Rattle.laws.specs.Stretches.{afterStretch, stretches}
-use Rattle.rules.specs.Weak.{W1, W2, W3, W4, W5, W6, W7, changeW3, changeW4, changeW5, changeW6, isTerminator, weak}
+use Rattle.rules.specs.Weak.{W1, W2, W3, W4, W5, W6, W7, changeW1, changeW2, strongW2, changeW3, changeW4, changeW5, changeW6, changeW7, strongW7, isTerminator, weak}
 use Rattle.laws.specs.Any.{anyOf}
 use Rattle.laws.proofs.Any.{none-first}
 use Rattle.laws.proofs.Lists.{drop-next}
 use Rattle.laws.proofs.Passes.{by-test, head-drop}
-use Rattle.weak.specs.Steps.{strongW2, strongW7, isTouched}
+use Rattle.weak.specs.Touched.{isTouched}
 
 -- what a type is not that no rule asks for
 record Untouched (t : ℕ) : Type 0 where
@@ -46,12 +46,12 @@ others : (t : ℕ) (ts : List ℕ) → anyOf isTouched (t ∷ ts) ≡ false → 
 others t ts none = none-first isTouched t ts none .1
 
 W1-untouched : (before : ℕ) (ts : List ℕ) → anyOf isTouched ts ≡ false → W1 before ts ≡ ts
-unfolding W1
+unfolding W1 changeW1
 W1-untouched before [] none = refl
 W1-untouched before (t ∷ ts) none = rw (first t ts none .no-nsm) (ap (λ (r : List ℕ). t ∷ r) (W1-untouched t ts (others t ts none)))
 
 W2-untouched : (strong : ℕ) (ts : List ℕ) → anyOf isTouched ts ≡ false → W2 strong ts ≡ ts
-unfolding W2 strongW2
+unfolding W2 changeW2
 W2-untouched strong [] none = refl
 W2-untouched strong (t ∷ ts) none = rw (first t ts none .no-en) (ap (λ (r : List ℕ). t ∷ r) (W2-untouched (strongW2 strong t) ts (others t ts none)))
 
@@ -76,7 +76,7 @@ W6-untouched [] none = refl
 W6-untouched (t ∷ ts) none = rw (first t ts none .no-es, first t ts none .no-et, first t ts none .no-cs) (ap (λ (r : List ℕ). t ∷ r) (W6-untouched ts (others t ts none)))
 
 W7-untouched : (strong : ℕ) (ts : List ℕ) → anyOf isTouched ts ≡ false → W7 strong ts ≡ ts
-unfolding W7 strongW7
+unfolding W7 changeW7
 W7-untouched strong [] none = refl
 W7-untouched strong (t ∷ ts) none = rw (first t ts none .no-en) (ap (λ (r : List ℕ). t ∷ r) (W7-untouched (strongW7 strong t) ts (others t ts none)))
 
@@ -85,15 +85,12 @@ module _ (ys : List ℕ) (none : anyOf isTouched ys ≡ false) where
   W1-front : (before : ℕ) (xs : List ℕ) → W1 before (xs ++ ys) ≡ W1 before xs ++ ys
   unfolding W1
   W1-front before [] = W1-untouched before ys none
-  W1-front before (x ∷ xs) =
-      by-test (eqb x NSM)
-      (λ e. rw e (ap (λ (r : List ℕ). before ∷ r) (W1-front before xs)))
-      (λ e. rw e (ap (λ (r : List ℕ). x ∷ r) (W1-front x xs)))
+  W1-front before (x ∷ xs) = ap (λ (r : List ℕ). changeW1 before x ∷ r) (W1-front (changeW1 before x) xs)
 
   W2-front : (strong : ℕ) (xs : List ℕ) → W2 strong (xs ++ ys) ≡ W2 strong xs ++ ys
   unfolding W2
   W2-front strong [] = W2-untouched strong ys none
-  W2-front strong (x ∷ xs) = ap (λ (r : List ℕ). (if eqb x EN && eqb strong AL then AN else x) ∷ r) (W2-front (if isStrong x then x else strong) xs)
+  W2-front strong (x ∷ xs) = ap (λ (r : List ℕ). changeW2 strong x ∷ r) (W2-front (strongW2 strong x) xs)
 
   W3-front : (xs : List ℕ) → W3 (xs ++ ys) ≡ W3 xs ++ ys
   unfolding W3
@@ -139,7 +136,7 @@ module _ (ys : List ℕ) (none : anyOf isTouched ys ≡ false) where
   W7-front : (strong : ℕ) (xs : List ℕ) → W7 strong (xs ++ ys) ≡ W7 strong xs ++ ys
   unfolding W7
   W7-front strong [] = W7-untouched strong ys none
-  W7-front strong (x ∷ xs) = ap (λ (r : List ℕ). (if eqb x EN && eqb strong L then L else x) ∷ r) (W7-front (if eqb x R || eqb x L then x else strong) xs)
+  W7-front strong (x ∷ xs) = ap (λ (r : List ℕ). changeW7 strong x ∷ r) (W7-front (strongW7 strong x) xs)
 
   weak-front : (sor eor : ℕ) (xs : List ℕ) → weak sor eor (xs ++ ys) ≡ weak sor (headOr eor ys) xs ++ ys
   unfolding weak

@@ -2,30 +2,23 @@
 -- by stretches.
 -- Assumes nothing.
 use Prim.Native.Nat.{ℕ}
-use mathlib.Core.Bool.{true, false, _&&_}
+use mathlib.Core.Bool.{true}
 use mathlib.Core.Path.{_≡_, refl, sym, ap, _∙_}
 use mathlib.Core.List.{List, [], _∷_}
-use borrow.Author.Tests.{eqb-true, ne-eqb}
-use lib.Dec.{eqb}
+use borrow.Author.Tests.{eqb-true}
 use lib.ListN.{length}
 use Rattle.laws.specs.Choice.{headOr}
-use Rattle.rules.specs.Classes.{EN, ES, ET, AN, CS, NSM}
-use Rattle.rules.specs.Weak.{W1, W2, W3, W4, W5, W6, W7, changeW3, changeW4, changeW5, changeW6, isTerminator, weak}
-use Rattle.laws.proofs.Passes.{sweep, length-sweep, map-sweep, length-stretches, by-test}
-use Rattle.weak.specs.Steps.{changeW1, changeW2, strongW2, changeW7, strongW7}
-
-pub W1-cons : (before t : ℕ) (ts : List ℕ) → W1 before (t ∷ ts) ≡ changeW1 before t ∷ W1 (changeW1 before t) ts
-unfolding W1 changeW1
-W1-cons before t ts = by-test (eqb t NSM) (λ mark. rw mark) (λ other. rw other)
+use Rattle.rules.specs.Classes.{ET}
+use Rattle.rules.specs.Weak.{W1, W2, W3, W4, W5, W6, W7, changeW1, changeW2, strongW2, changeW3, changeW4, changeW5, changeW6, changeW7, strongW7, isTerminator, weak}
+use Rattle.laws.proofs.Passes.{sweep, length-sweep, map-sweep, length-stretches}
 
 W1-sweep : (before : ℕ) (ts : List ℕ) → W1 before ts ≡ sweep (λ s t n. changeW1 s t) changeW1 0 before ts
 unfolding W1 sweep
 W1-sweep before [] = refl
-W1-sweep before (t ∷ ts) =
-    W1-cons before t ts ∙ ap (λ (r : List ℕ). changeW1 before t ∷ r) (W1-sweep (changeW1 before t) ts)
+W1-sweep before (t ∷ ts) = ap (λ (r : List ℕ). changeW1 before t ∷ r) (W1-sweep (changeW1 before t) ts)
 
 W2-sweep : (strong : ℕ) (ts : List ℕ) → W2 strong ts ≡ sweep (λ s t n. changeW2 s t) strongW2 0 strong ts
-unfolding W2 changeW2 strongW2 sweep
+unfolding W2 sweep
 W2-sweep strong [] = refl
 W2-sweep strong (t ∷ ts) = ap (λ (r : List ℕ). changeW2 strong t ∷ r) (W2-sweep (strongW2 strong t) ts)
 
@@ -38,21 +31,6 @@ unfolding W4 sweep
 W4-sweep before eor [] = refl
 W4-sweep before eor (t ∷ ts) = ap (λ (r : List ℕ). changeW4 before t (headOr eor ts) ∷ r) (W4-sweep t eor ts)
 
-both : (before next number : ℕ) → (before ≡ next → ⊥) → eqb before number && eqb next number ≡ false
-both before next number apart =
-    by-test (eqb before number)
-    (λ first. rw first (ne-eqb next number (λ second. apart (eqb-true before number first ∙ sym second))))
-    (λ first. rw first)
-
--- between two different types W4 changes nothing
-pub W4-apart : (before t next : ℕ) → (before ≡ next → ⊥) → t ≡ changeW4 before t next
-unfolding changeW4
-W4-apart before t next apart =
-    rw (both before next EN apart, both before next AN apart)
-    (by-test (eqb t ES)
-    (λ es. rw es (by-test (eqb t CS) (λ cs. rw cs) (λ cs. rw cs)))
-    (λ es. rw es (by-test (eqb t CS) (λ cs. rw cs) (λ cs. rw cs))))
-
 -- every type of a stretch of ET is ET
 pub W5-same : (before next t : ℕ) → isTerminator t ≡ true → changeW5 before next t ≡ changeW5 before next ET
 unfolding isTerminator
@@ -63,7 +41,7 @@ unfolding W6
 W6-sweep ts = map-sweep changeW6 ts
 
 W7-sweep : (strong : ℕ) (ts : List ℕ) → W7 strong ts ≡ sweep (λ s t n. changeW7 s t) strongW7 0 strong ts
-unfolding W7 changeW7 strongW7 sweep
+unfolding W7 sweep
 W7-sweep strong [] = refl
 W7-sweep strong (t ∷ ts) = ap (λ (r : List ℕ). changeW7 strong t ∷ r) (W7-sweep (strongW7 strong t) ts)
 

@@ -1,3 +1,2 @@
 -- What the inner functions of this crate meet.
-pub mod Steps
-pub mod Tables
+pub mod Touched

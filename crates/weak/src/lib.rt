@@ -4,62 +4,15 @@ ghost use mathlib.Core.Path.{_≡_};
 ghost use mathlib.Core.Bool.{false};
 ghost use Prim.Native.Nat.{_+_, _≤_};
 ghost use lib.ListN.{length, drop};
-ghost use Rattle.rules.specs.Weak.{W1, W2, W3, W4, W5, W6, W7, changeW4, changeW5, isTerminator, weak};
-ghost use Rattle.rules.specs.Classes.{ET};
+ghost use Rattle.rules.specs.Weak.{W1, W2, W3, W4, W5, W6, W7, isTerminator, weak};
 ghost use Rattle.laws.specs.Any.{anyOf};
 ghost use Rattle.laws.specs.Stretches.{span};
-ghost use Rattle.weak.specs.Tables.{early, late};
-ghost use Rattle.weak.specs.Steps.{changeW1, isTouched};
-
-mod steps;
-
-use steps::EARLY;
-use steps::LATE;
-use steps::change_w2_w3;
-use steps::change_w6_w7;
-use steps::strong_w2;
-use steps::strong_w7;
-
-fn change_w1(before: u8, t: u8) -> u8
-    ensures { λ r. ⌜ r ≡ changeW1 before t ⌝ }
-{
-    if t == classes::NSM {
-        return before;
-    }
-    t
-}
-
-// Most types are no separators: that is asked first. One changes only between equal types.
-fn change_w4(before: u8, t: u8, next: u8) -> u8
-    ensures { λ r. ⌜ r ≡ changeW4 before t next ⌝ }
-{
-    if t == classes::CS {
-        if before != next {
-            return t;
-        }
-        if before == classes::EN {
-            return classes::EN;
-        }
-        if before == classes::AN {
-            return classes::AN;
-        }
-        return t;
-    }
-    if t == classes::ES {
-        if before != next {
-            return t;
-        }
-        if before == classes::EN {
-            return classes::EN;
-        }
-        return t;
-    }
-    t
-}
+ghost use Rattle.weak_steps.specs.Tables.{early, late};
+ghost use Rattle.weak.specs.Touched.{isTouched};
 
 // W1 to W4 in one pass. W4 asks for the next type as W3 left it, so a type is written when the next one is known; the
 // type before is the one before W4, carried since its place is written already.
-fn w1_to_w4(table: &[u8], types: &mut [u8], sor: u8, eor: u8)
+fn w1_to_w4(table: &[u8; weak_steps::ENTRIES], types: &mut [u8], sor: u8, eor: u8)
     requires { ⌜ now table ≡ early ⌝ }
     ensures { λ _. ⌜ now (types .exit) ≡ W4 sor eor (W3 (W2 sor (W1 sor (now (types .entry))))) ⌝ }
 {
@@ -67,21 +20,21 @@ fn w1_to_w4(table: &[u8], types: &mut [u8], sor: u8, eor: u8)
         return;
     }
     // at i: after W1, after W3, and the strong type for what follows; at i - 1: after W3
-    let mut own = change_w1(sor, types[0]);
-    let mut here = change_w2_w3(table, sor, own);
-    let mut strong = strong_w2(table, sor, own);
+    let mut own = weak_steps::change_w1(sor, types[0]);
+    let mut here = weak_steps::change(table, classes::AL, sor, own);
+    let mut strong = weak_steps::carry(table, sor, own);
     let mut before = sor;
     let mut i = 0;
     while i + 1 < types.len() {
-        own = change_w1(own, types[i + 1]);
-        let next = change_w2_w3(table, strong, own);
-        strong = strong_w2(table, strong, own);
-        types[i] = change_w4(before, here, next);
+        own = weak_steps::change_w1(own, types[i + 1]);
+        let next = weak_steps::change(table, classes::AL, strong, own);
+        strong = weak_steps::carry(table, strong, own);
+        types[i] = weak_steps::change_w4(before, here, next);
         before = here;
         here = next;
         i += 1;
     }
-    types[i] = change_w4(before, here, eor);
+    types[i] = weak_steps::change_w4(before, here, eor);
 }
 
 // Where a stretch of ET ends that holds `from`; `from` itself where there is none.
@@ -98,22 +51,9 @@ fn terminators_end(types: &[u8], from: usize) -> usize
     i
 }
 
-// What a stretch of ET between two types becomes.
-fn change_w5(before: u8, next: u8) -> u8
-    ensures { λ r. ⌜ r ≡ changeW5 before next ET ⌝ }
-{
-    if before == classes::EN {
-        return classes::EN;
-    }
-    if next == classes::EN {
-        return classes::EN;
-    }
-    classes::ET
-}
-
 // W5 to W7 in one pass: a stretch of ET is filled with what all three make of it. Its end is sought once, from its
 // first place: the pass stays linear.
-fn w5_to_w7(table: &[u8], types: &mut [u8], sor: u8, eor: u8)
+fn w5_to_w7(table: &[u8; weak_steps::ENTRIES], types: &mut [u8], sor: u8, eor: u8)
     requires { ⌜ now table ≡ late ⌝ }
     ensures { λ _. ⌜ now (types .exit) ≡ W7 sor (W6 (W5 sor eor (now (types .entry)))) ⌝ }
 {
@@ -127,12 +67,17 @@ fn w5_to_w7(table: &[u8], types: &mut [u8], sor: u8, eor: u8)
             let next = parts::element_or(types, end, eor);
             parts::fill(
                 &mut types[i..end],
-                change_w6_w7(table, strong, change_w5(before, next)),
+                weak_steps::change(
+                    table,
+                    classes::L,
+                    strong,
+                    weak_steps::change_w5(before, next),
+                ),
             );
             i = end;
         } else {
-            types[i] = change_w6_w7(table, strong, t);
-            strong = strong_w7(table, strong, t);
+            types[i] = weak_steps::change(table, classes::L, strong, t);
+            strong = weak_steps::carry(table, strong, t);
             before = t;
             i += 1;
         }
@@ -171,8 +116,8 @@ fn touched_end(types: &[u8]) -> usize
 fn both_passes(types: &mut [u8], sor: u8, eor: u8)
     ensures { λ _. ⌜ now (types .exit) ≡ weak sor eor (now (types .entry)) ⌝ }
 {
-    let early = EARLY;
-    let late = LATE;
+    let early = weak_steps::early_table();
+    let late = weak_steps::late_table();
     w1_to_w4(&early, types, sor, eor);
     w5_to_w7(&late, types, sor, eor);
 }

@@ -11,22 +11,40 @@ gather-requires : tie.Need-gather-requires
 gather-requires c κs = search needs
 
 slice-relend-prefix-resolve-kept : tie.Need-slice-relend-prefix-resolve-kept
-slice-relend-prefix-resolve-kept c = within-types (c .before .before .before .before .gather .ensures) (c .before .before .before .before .before .before .before .before .before .before .pre .0) (c .before .before .before .before .before .before .before .before .before .before .pre .1) (c .before .before .before .before .before .before .before .before .before .before .pre .2)
+slice-relend-prefix-resolve-kept c =
+    let at = c .before .before .before .before in
+    let start = at .before .before .before .before .before .before in
+    within-types (at .gather .ensures) (start .pre)
 
 slice-aggregate-resolve-kept : tie.Need-slice-aggregate-resolve-kept
-slice-aggregate-resolve-kept c = sym (length-take-le _ _ (within-types (c .before .before .before .before .before .gather .ensures) (c .before .before .before .before .before .before .before .before .before .before .before .pre .0) (c .before .before .before .before .before .before .before .before .before .before .before .pre .1) (c .before .before .before .before .before .before .before .before .before .before .before .pre .2)))
+slice-aggregate-resolve-kept c =
+    let at = c .before .before .before .before .before in
+    let start = at .before .before .before .before .before .before in
+    sym (length-take-le _ _ (within-types (at .gather .ensures) (start .pre)))
 
 slice-relend-prefix-resolve-kept-2 : tie.Need-slice-relend-prefix-resolve-kept-2
-slice-relend-prefix-resolve-kept-2 c = within-levels (c .before .before .before .before .before .gather .ensures) (c .before .before .before .before .before .before .before .before .before .before .before .pre .0) (c .before .before .before .before .before .before .before .before .before .before .before .pre .1) (c .before .before .before .before .before .before .before .before .before .before .before .pre .2)
+slice-relend-prefix-resolve-kept-2 c =
+    let at = c .before .before .before .before .before in
+    let start = at .before .before .before .before .before .before in
+    within-levels (at .gather .ensures) (start .pre)
 
 slice-aggregate-resolve-kept-2 : tie.Need-slice-aggregate-resolve-kept-2
-slice-aggregate-resolve-kept-2 c = sym (length-take-le _ _ (within-levels (c .before .before .before .before .before .before .gather .ensures) (c .before .before .before .before .before .before .before .before .before .before .before .before .pre .0) (c .before .before .before .before .before .before .before .before .before .before .before .before .pre .1) (c .before .before .before .before .before .before .before .before .before .before .before .before .pre .2)))
+slice-aggregate-resolve-kept-2 c =
+    let at = c .before .before .before .before .before .before in
+    let start = at .before .before .before .before .before .before in
+    sym (length-take-le _ _ (within-levels (at .gather .ensures) (start .pre)))
 
 resolve-kept-requires : tie.Need-resolve-kept-requires
-resolve-kept-requires c κs = (fronts-equal (c .before .before .before .before .before .before .gather .ensures) (c .before .before .before .before .before .before .before .before .before .before .before .before .pre .0) (c .before .before .before .before .before .before .before .before .before .before .before .before .pre .1) (c .before .before .before .before .before .before .before .before .before .before .before .before .pre .2), front-low (c .before .before .before .before .before .before .gather .ensures) (c .before .before .before .before .before .before .before .before .before .before .before .before .pre .0) (c .before .before .before .before .before .before .before .before .before .before .before .before .pre .1) (c .before .before .before .before .before .before .before .before .before .before .before .before .pre .2))
+resolve-kept-requires c κs =
+    let at = c .before .before .before .before .before .before in
+    let start = at .before .before .before .before .before .before in
+    (fronts-equal (at .gather .ensures) (start .pre), front-low (at .gather .ensures) (start .pre))
 
 put-back-requires : tie.Need-put-back-requires
-put-back-requires c κs = (count-kept (c .before .before .before .before .before .before .before .before .before .before .before .before .gather .ensures) (c .before .before .before .before .before .before .before .before .before .before .before .before .before .before .before .before .before .before .pre .0) (c .before .before .before .before .before .before .before .before .before .before .before .before .before .before .before .before .before .before .pre .1) (c .before .before .before .before .before .before .before .before .before .before .before .before .before .before .before .before .before .before .pre .2), back-room (c .before .before .before .before .before .before .before .before .before .before .before .before .gather .ensures) (c .before .before .before .before .before .before .before .before .before .before .before .before .before .before .before .before .before .before .pre .0) (c .before .before .before .before .before .before .before .before .before .before .before .before .before .before .before .before .before .before .pre .1) (c .before .before .before .before .before .before .before .before .before .before .before .before .before .before .before .before .before .before .pre .2) (c .before .before .before .before .before .resolve-kept .last .1 .0) (c .before .before .before .before .before .resolve-kept .kept .1 .0))
+put-back-requires c κs =
+    let at = c .before .before .before .before .before .before .before .before .before .before .before .before in
+    let start = at .before .before .before .before .before .before in
+    (count-kept (at .gather .ensures) (start .pre), back-room (at .gather .ensures) (start .pre) (c .before .before .before .before .before .resolve-kept .last .1 .0) (c .before .before .before .before .before .resolve-kept .kept .1 .0))
 
 same-length : tie.Need-same-length
 same-length c = search needs
@@ -35,7 +53,10 @@ same-length-2 : tie.Need-same-length-2
 same-length-2 c = search needs
 
 returns : tie.Need-returns
-returns c = resolved-whole (c .before .before .before .before .before .before .before .before .before .before .before .before .before .before .before .gather .ensures) (c .before .before .before .before .before .before .before .before .before .before .before .before .before .before .before .before .before .before .before .before .before .pre .0) (c .before .before .before .before .before .before .before .before .before .before .before .before .before .before .before .before .before .before .before .before .before .pre .1) (c .before .before .before .before .before .before .before .before .before .before .before .before .before .before .before .before .before .before .before .before .before .pre .2) (c .before .before .before .before .before .before .before .before .resolve-kept .last .1 .0) _ (c .before .before .before .before .before .before .before .before .resolve-kept .kept .1 .0) (c .before .before .before .before .before .before .before .before .resolve-kept .ensures) (c .before .before .put-back .ensures)
+returns c =
+    let at = c .before .before .before .before .before .before .before .before .before .before .before .before .before .before .before in
+    let start = at .before .before .before .before .before .before in
+    resolved-whole (at .gather .ensures) (start .pre) (c .before .before .before .before .before .before .before .before .resolve-kept .last .1 .0) _ (c .before .before .before .before .before .before .before .before .resolve-kept .kept .1 .0) (c .before .before .before .before .before .before .before .before .resolve-kept .ensures) (c .before .before .put-back .ensures)
 
 pub resolve-gathered-spec : {M : Type 1} → statement M
 resolve-gathered-spec =

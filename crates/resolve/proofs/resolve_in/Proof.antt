@@ -17,10 +17,12 @@ same-length-2 : tie.Need-same-length-2
 same-length-2 c = search needs
 
 returns : tie.Need-returns
-returns c = search needs
+returns c = c .before .before .before .before .resolve-gathered .ensures
 
 resolve-plain-requires : tie.Need-resolve-plain-requires
-resolve-plain-requires c κs = (c .before .before .before .before .before .before .before .pre, known (c .before .before .before .any-removed .ensures) (c .before .before .if1 .left))
+resolve-plain-requires c κs =
+    let pre = c .before .before .before .before .before .before .before .pre in
+    ((search needs, pre .1, pre .2), known (c .before .before .before .any-removed .ensures) (c .before .before .if1 .left))
 
 same-length-3 : tie.Need-same-length-3
 same-length-3 c = search needs
@@ -29,7 +31,7 @@ same-length-4 : tie.Need-same-length-4
 same-length-4 c = search needs
 
 returns-2 : tie.Need-returns-2
-returns-2 c = search needs
+returns-2 c = c .before .before .before .before .resolve-plain .ensures
 
 pub resolve-in-spec : {M : Type 1} → statement M
 resolve-in-spec =

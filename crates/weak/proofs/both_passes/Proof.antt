@@ -4,14 +4,14 @@ use borrow.Author.Needs.{needs}
 use Rattle.weak.proofs.both_passes.Statement.{statement}
 use Rattle.weak.proofs.both_passes.Tie as tie
 
-slice-aggregate-w1-to-w4 : tie.Need-slice-aggregate-w1-to-w4
-slice-aggregate-w1-to-w4 c = search needs
+early-table-requires : tie.Need-early-table-requires
+early-table-requires c κs = search needs
+
+late-table-requires : tie.Need-late-table-requires
+late-table-requires c κs = search needs
 
 w1-to-w4-requires : tie.Need-w1-to-w4-requires
 w1-to-w4-requires c κs = search needs
-
-slice-aggregate-w5-to-w7 : tie.Need-slice-aggregate-w5-to-w7
-slice-aggregate-w5-to-w7 c = search needs
 
 w5-to-w7-requires : tie.Need-w5-to-w7-requires
 w5-to-w7-requires c κs = search needs
@@ -26,9 +26,9 @@ pub both-passes-spec : {M : Type 1} → statement M
 both-passes-spec =
     tie.close
     (tie.spec
-    slice-aggregate-w1-to-w4
+    early-table-requires
+    late-table-requires
     w1-to-w4-requires
-    slice-aggregate-w5-to-w7
     w5-to-w7-requires
     same-length
     returns)

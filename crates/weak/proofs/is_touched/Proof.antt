@@ -1,7 +1,7 @@
 -- `weak::is_touched` meets its contract: the tests on the way to each return decide `isTouched`. Assumes nothing.
 use borrow.Author.Needs.{needs}
 use Rattle.laws.proofs.Tests.{tests}
-use Rattle.weak.specs.Steps.{isTouched}
+use Rattle.weak.specs.Touched.{isTouched}
 use Rattle.weak.proofs.is_touched.Statement.{statement}
 use Rattle.weak.proofs.is_touched.Tie as tie
 

@@ -5,7 +5,7 @@ use mathlib.Core.Bool.{false}
 use mathlib.Core.Path.{_≡_}
 use lib.ListN.{length, drop}
 use Rattle.laws.specs.Any.{anyOf}
-use Rattle.weak.specs.Steps.{isTouched}
+use Rattle.weak.specs.Touched.{isTouched}
 use Rattle.weak.proofs.TouchedLaws.{end-begun, end-next}
 use borrow.Author.Needs.{needs}
 use Rattle.weak.proofs.touched_end.Statement.{statement}

@@ -1,6 +1,7 @@
 -- `weak::w1_to_w4` meets its contract: what is written, then the rules on the type held and on what is left, is the
 -- rules on the whole run. The measure is what is left of the length. Assumes nothing.
 use Prim.Native.Nat.{_-_}
+use native.Mathlib.Omega.{arith}
 use lib.ListN.{length}
 use Rattle.weak.proofs.EarlyLaws.{Early, early-none, early-begun, early-next, early-done}
 use borrow.Author.Needs.{needs}
@@ -22,16 +23,17 @@ slice-read-change-w1 c = search needs
 change-w1-requires : tie.Need-change-w1-requires Inv-loop μ-loop
 change-w1-requires c κs = search needs
 
-change-w2-w3-requires : tie.Need-change-w2-w3-requires Inv-loop μ-loop
-change-w2-w3-requires c κs = search needs
+change-requires : tie.Need-change-requires Inv-loop μ-loop
+change-requires c κs = search needs
 
-strong-w2-requires : tie.Need-strong-w2-requires Inv-loop μ-loop
-strong-w2-requires c κs = search needs
+carry-requires : tie.Need-carry-requires Inv-loop μ-loop
+carry-requires c κs = search needs
 
 loop-holds : tie.Need-loop-holds Inv-loop μ-loop
 loop-holds c =
-    early-begun _ (c .before .before .before .before .if1 .left) (c .before .before .change-w1 .ensures)
-    (c .before .change-w2-w3 .ensures) (c .strong-w2 .ensures)
+    let start = c .before .before .before .before .before .before in
+    early-begun _ (start .pre) (omega arith) (omega arith) (omega arith) (c .before .before .before .before .if1 .left) (c .before .before .change-w1 .ensures)
+    (c .before .change .ensures) (c .carry .ensures)
 
 add-loop : tie.Need-add-loop Inv-loop μ-loop
 add-loop c = search needs
@@ -45,11 +47,11 @@ slice-read-change-w1-2 c = search needs
 change-w1-requires-2 : tie.Need-change-w1-requires-2 Inv-loop μ-loop
 change-w1-requires-2 c κs = search needs
 
-change-w2-w3-requires-2 : tie.Need-change-w2-w3-requires-2 Inv-loop μ-loop
-change-w2-w3-requires-2 c κs = search needs
+change-requires-2 : tie.Need-change-requires-2 Inv-loop μ-loop
+change-requires-2 c κs = search needs
 
-strong-w2-requires-2 : tie.Need-strong-w2-requires-2 Inv-loop μ-loop
-strong-w2-requires-2 c κs = search needs
+carry-requires-2 : tie.Need-carry-requires-2 Inv-loop μ-loop
+carry-requires-2 c κs = search needs
 
 change-w4-requires : tie.Need-change-w4-requires Inv-loop μ-loop
 change-w4-requires c κs = search needs
@@ -66,8 +68,8 @@ loop-less c = search needs
 loop-again : tie.Need-loop-again Inv-loop μ-loop
 loop-again c =
     let at = c .before .before .before .before .before in
-    early-next (at .before .loop .inv) (at .loop-test .taken) (c .before .before .before .change-w12 .ensures)
-    (c .before .before .change-w2-w32 .ensures) (c .before .strong-w22 .ensures) (c .change-w4 .ensures)
+    early-next (at .before .loop .inv) (at .before .before .before .before .before .before .before .before .pre) (omega arith) (omega arith) (at .loop-test .taken)
+    (c .before .before .before .change-w12 .ensures) (c .before .before .change2 .ensures) (c .before .carry2 .ensures) (c .change-w4 .ensures)
 
 change-w4-requires-2 : tie.Need-change-w4-requires-2 Inv-loop μ-loop
 change-w4-requires-2 c κs = search needs
@@ -90,15 +92,15 @@ w1-to-w4-spec =
     returns
     slice-read-change-w1
     change-w1-requires
-    change-w2-w3-requires
-    strong-w2-requires
+    change-requires
+    carry-requires
     loop-holds
     add-loop
     add-change-w1
     slice-read-change-w1-2
     change-w1-requires-2
-    change-w2-w3-requires-2
-    strong-w2-requires-2
+    change-requires-2
+    carry-requires-2
     change-w4-requires
     slice-write-types
     add-i

@@ -2,13 +2,12 @@
 -- Assumes nothing.
 use Prim.Native.Nat.{_+_, _-_, _≤_, _<_}
 use native.Mathlib.Omega.{arith}
-use mathlib.Core.Path.{_≡_, sym, ap, _∙_}
+use mathlib.Core.Path.{_≡_, sym, _∙_}
 use lib.ListN.{length, drop}
 use borrow.Author.Tests.{eq-eqb, ne-eqb}
-use Rattle.rules.specs.Weak.{isTerminator, changeW6}
+use Rattle.rules.specs.Weak.{isTerminator}
 use Rattle.laws.specs.Stretches.{span}
 use Rattle.laws.proofs.Passes.{span-further, span-found}
-use Rattle.weak.specs.Steps.{changeW7}
 use Rattle.weak.proofs.LateLaws.{Late, late-begun, late-next, late-filled, late-done}
 use borrow.Author.Needs.{needs}
 use Rattle.weak.proofs.w5_to_w7.Statement.{statement}
@@ -33,7 +32,7 @@ found c =
     span-found isTerminator _ _ _ (c .before .before .before .before .loop-test .taken) (eq-eqb _ _ (c .before .before .if1 .taken)) (ends c)
 
 loop-holds : tie.Need-loop-holds Inv-loop μ-loop
-loop-holds c = late-begun _
+loop-holds c = late-begun _ (omega arith)
 
 slice-read-t : tie.Need-slice-read-t Inv-loop μ-loop
 slice-read-t c = search needs
@@ -59,8 +58,8 @@ part-fill-end c = found (c .before .before) .1
 change-w5-requires : tie.Need-change-w5-requires Inv-loop μ-loop
 change-w5-requires c κs = search needs
 
-change-w6-w7-requires : tie.Need-change-w6-w7-requires Inv-loop μ-loop
-change-w6-w7-requires c κs = search needs
+change-requires : tie.Need-change-requires Inv-loop μ-loop
+change-requires c κs = search needs
 
 fill-requires : tie.Need-fill-requires Inv-loop μ-loop
 fill-requires c κs = search needs
@@ -74,18 +73,17 @@ loop-again : tie.Need-loop-again Inv-loop μ-loop
 loop-again c =
     let e = c .before .before .before .before .before .before .before .before in
     let at = e .before .before .before .before .before in
-    late-filled (at .loop .inv) (ends e) (c .before .before .before .before .before .before .element-or .ensures)
-    (c .before .before .before .change-w6-w7 .ensures ∙ ap (λ t. changeW7 (at .loop .strong) (changeW6 t)) (c .before .before .before .before .change-w5 .ensures))
-    (c .before .before .fill .ensures)
+    late-filled (at .loop .inv) (at .before .before .pre) (omega arith) (ends e) (c .before .before .before .before .before .before .element-or .ensures)
+    (c .before .before .before .before .change-w5 .ensures) (c .before .before .before .change .ensures) (c .before .before .fill .ensures)
 
-change-w6-w7-requires-2 : tie.Need-change-w6-w7-requires-2 Inv-loop μ-loop
-change-w6-w7-requires-2 c κs = search needs
+change-requires-2 : tie.Need-change-requires-2 Inv-loop μ-loop
+change-requires-2 c κs = search needs
 
 slice-write-types : tie.Need-slice-write-types Inv-loop μ-loop
 slice-write-types c = search needs
 
-strong-w7-requires : tie.Need-strong-w7-requires Inv-loop μ-loop
-strong-w7-requires c κs = search needs
+carry-requires : tie.Need-carry-requires Inv-loop μ-loop
+carry-requires c κs = search needs
 
 add-i : tie.Need-add-i Inv-loop μ-loop
 add-i c = search needs
@@ -97,8 +95,8 @@ loop-again-2 : tie.Need-loop-again-2 Inv-loop μ-loop
 unfolding isTerminator
 loop-again-2 c =
     let at = c .before .before .before .before in
-    late-next (at .before .loop .inv) (at .loop-test .taken) (ne-eqb _ _ (c .before .before .if1 .left))
-    (c .before .change-w6-w72 .ensures) (c .strong-w7 .ensures)
+    late-next (at .before .loop .inv) (at .before .before .before .pre) (omega (arith, c .before .before .before .slice-known2 .given (at .before .loop .i))) (omega arith) (at .loop-test .taken) (ne-eqb _ _ (c .before .before .if1 .left))
+    (c .before .change2 .ensures) (c .carry .ensures)
 
 same-length : tie.Need-same-length Inv-loop μ-loop
 same-length c = search needs
@@ -121,13 +119,13 @@ w5-to-w7-spec =
     part-fill-start
     part-fill-end
     change-w5-requires
-    change-w6-w7-requires
+    change-requires
     fill-requires
     loop-less
     loop-again
-    change-w6-w7-requires-2
+    change-requires-2
     slice-write-types
-    strong-w7-requires
+    carry-requires
     add-i
     loop-less-2
     loop-again-2

@@ -1,0 +1,2 @@
+-- What the inner functions of this crate meet.
+pub mod Finals

@@ -1,2 +1,0 @@
-pub mod RunEnd
-pub mod Packed

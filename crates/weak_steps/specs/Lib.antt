@@ -1,0 +1,2 @@
+-- What the tables are, and how they are read.
+pub mod Tables
