@@ -1,4 +1,4 @@
-// What a lent buffer holds before a call, and whether a refused call left it so.
+// What a lent buffer holds before a call, and whether a call left it so.
 use crate::say;
 
 pub(crate) const LEVEL: u8 = 77;
@@ -16,8 +16,8 @@ fn all_levels(levels: &[u8]) -> bool {
     true
 }
 
-fn all_places(order: &[u16]) -> bool {
-    let mut i = 0;
+fn all_places(order: &[u16], from: usize) -> bool {
+    let mut i = from;
     while i < order.len() {
         if order[i] != PLACE {
             return false;
@@ -27,18 +27,21 @@ fn all_places(order: &[u16]) -> bool {
     true
 }
 
-pub(crate) fn levels_untouched(levels: &[u8]) {
-    if all_levels(levels) {
-        say::text(b", levels as they were");
-    } else {
-        say::text(b", levels changed");
+fn say_unless(same: bool) {
+    if !same {
+        say::text(b" not");
     }
 }
 
-pub(crate) fn order_untouched(order: &[u16]) {
-    if all_places(order) {
-        say::text(b", order as it was");
-    } else {
-        say::text(b", order changed");
-    }
+pub(crate) fn levels(levels: &[u8]) {
+    say::text(b", levels");
+    say_unless(all_levels(levels));
+    say::text(b" as they were");
+}
+
+// An order from a place on.
+pub(crate) fn places(name: &[u8], order: &[u16], from: usize) {
+    say::text(name);
+    say_unless(all_places(order, from));
+    say::text(b" as it was");
 }

@@ -5,12 +5,18 @@ pub(crate) fn text(bytes: &[u8]) {
     io::write_all(libc::STDOUT_FILENO, bytes);
 }
 
+// A number behind a space.
 pub(crate) fn number(n: usize) {
+    text(b" ");
     io::print_decimal(libc::STDOUT_FILENO, n as u64);
 }
 
-// A byte, and a 16-bit number: passed by value, so that nothing is asked of the cast.
-pub(crate) fn byte(n: u8) {
+// A byte, or a dash for the level of a removed position.
+fn byte(n: u8, dash: u16) {
+    if n as u16 == dash {
+        text(b" -");
+        return;
+    }
     number(n as usize);
 }
 
@@ -18,60 +24,40 @@ fn wide(n: u16) {
     number(n as usize);
 }
 
-// A level, or a dash where the position is removed; a class is written as its number. Past the end there is none.
-fn level_at(levels: &[u8], i: usize) {
-    if i < levels.len() {
-        let level = levels[i];
-        if level == classes::REMOVED_LEVEL {
-            text(b" -");
-            return;
-        }
-        text(b" ");
-        byte(level);
+// Past the end there is none.
+fn byte_at(bytes: &[u8], i: usize, dash: u16) {
+    if i < bytes.len() {
+        byte(bytes[i], dash);
     }
 }
 
 fn place_at(order: &[u16], i: usize) {
     if i < order.len() {
-        text(b" ");
         wide(order[i]);
     }
 }
 
-// The first n levels of a buffer.
-pub(crate) fn levels(levels: &[u8], n: usize) {
-    text(b" levels");
+// The first n bytes.
+pub(crate) fn bytes(bytes: &[u8], n: usize, dash: u16) {
     let mut i = 0;
     while i < n {
-        level_at(levels, i);
+        byte_at(bytes, i, dash);
         i += 1;
     }
 }
 
-// The first n places of an order.
-pub(crate) fn order(order: &[u16], n: usize) {
+// The places of an order from one to another.
+pub(crate) fn order(order: &[u16], from: usize, to: usize) {
     text(b" order");
-    let mut i = 0;
-    while i < n {
+    let mut i = from;
+    while i < to {
         place_at(order, i);
         i += 1;
     }
 }
 
-// A part of the classes: how long it is, and its first four.
-pub(crate) fn part(part: &[u8]) {
-    text(b", part ");
-    number(part.len());
-    text(b":");
-    level_at(part, 0);
-    level_at(part, 1);
-    level_at(part, 2);
-    level_at(part, 3);
-}
-
 pub(crate) fn refused(refusal: Refusal) {
-    text(b" refused ");
-    byte(refusal.number);
-    text(b" ");
+    text(b" refused");
+    number(refusal.number as usize);
     number(refusal.place);
 }

@@ -15,15 +15,15 @@ use Rattle.laws.proofs.Passes.{by-test}
 use Rattle.words.specs.Words.{toFirst, partsAt, firstPart, partEnd}
 
 module _ (s : ℕ) where
-  parts-nil : partsAt s [] ≡ [] ∷ []
+  pub parts-nil : partsAt s [] ≡ [] ∷ []
   unfolding partsAt
   parts-nil = refl
 
-  parts-here : (b : ℕ) (bs : List ℕ) → eqb b s ≡ true → partsAt s (b ∷ bs) ≡ [] ∷ partsAt s bs
+  pub parts-here : (b : ℕ) (bs : List ℕ) → eqb b s ≡ true → partsAt s (b ∷ bs) ≡ [] ∷ partsAt s bs
   unfolding partsAt
   parts-here b bs e = rw e
 
-  parts-on : (b : ℕ) (bs : List ℕ) → eqb b s ≡ false → partsAt s (b ∷ bs) ≡ toFirst b (partsAt s bs)
+  pub parts-on : (b : ℕ) (bs : List ℕ) → eqb b s ≡ false → partsAt s (b ∷ bs) ≡ toFirst b (partsAt s bs)
   unfolding partsAt
   parts-on b bs e = rw e
 

@@ -1,3 +1,4 @@
--- The printing program's input, and what reading it leaves.
+-- The printing program's input, what reading it leaves, and the rows that names are kept in.
 pub mod Words
 pub mod Read
+pub mod Rows

@@ -5,7 +5,6 @@ use mathlib.Core.List.{List, [], _∷_, map}
 use lib.Dec.{eqb}
 use lib.ListN.{length, drop}
 use Rattle.laws.specs.Choice.{if_then_else_}
-use Rattle.rules.specs.Classes.{L, LRE, LRO, R, AL, RLE, RLO, PDF, EN, ES, ET, AN, CS, NSM, BN, B, S, WS, ON}
 
 -- the bytes that end a line and stand between words
 abbrev pub lineFeed : ℕ
@@ -58,54 +57,49 @@ sameWord [] (y ∷ ys) = false
 sameWord (x ∷ xs) [] = false
 sameWord (x ∷ xs) (y ∷ ys) = eqb x y && sameWord xs ys
 
--- each class and its name in ASCII
-pub record Name : Type 0 where
-  pub class : ℕ
-  pub letters : List ℕ
+-- the place of a word in a list of names, counted on from a number, or what stands for none of them
+unfoldable pub placeAmong : ℕ → List (List ℕ) → ℕ → List ℕ → ℕ
+placeAmong place [] none word = none
+placeAmong place (name ∷ names) none word = if sameWord word name then place else placeAmong (place + 1) names none word
 
-abbrev name : ℕ → List ℕ → Name
-name class letters = record { class = class; letters = letters }
-
-abbrev pub names : List Name
-names =
-    name L (76 ∷ []) ∷
-    name LRE (76 ∷ 82 ∷ 69 ∷ []) ∷
-    name LRO (76 ∷ 82 ∷ 79 ∷ []) ∷
-    name R (82 ∷ []) ∷
-    name AL (65 ∷ 76 ∷ []) ∷
-    name RLE (82 ∷ 76 ∷ 69 ∷ []) ∷
-    name RLO (82 ∷ 76 ∷ 79 ∷ []) ∷
-    name PDF (80 ∷ 68 ∷ 70 ∷ []) ∷
-    name EN (69 ∷ 78 ∷ []) ∷
-    name ES (69 ∷ 83 ∷ []) ∷
-    name ET (69 ∷ 84 ∷ []) ∷
-    name AN (65 ∷ 78 ∷ []) ∷
-    name CS (67 ∷ 83 ∷ []) ∷
-    name NSM (78 ∷ 83 ∷ 77 ∷ []) ∷
-    name BN (66 ∷ 78 ∷ []) ∷
-    name B (66 ∷ []) ∷
-    name S (83 ∷ []) ∷
-    name WS (87 ∷ 83 ∷ []) ∷
-    name ON (79 ∷ 78 ∷ []) ∷
+-- the names of the classes in ASCII, in house order
+abbrev pub classNames : List (List ℕ)
+classNames =
+    (76 ∷ []) ∷  -- L
+    (76 ∷ 82 ∷ 69 ∷ []) ∷  -- LRE
+    (76 ∷ 82 ∷ 79 ∷ []) ∷  -- LRO
+    (82 ∷ []) ∷  -- R
+    (65 ∷ 76 ∷ []) ∷  -- AL
+    (82 ∷ 76 ∷ 69 ∷ []) ∷  -- RLE
+    (82 ∷ 76 ∷ 79 ∷ []) ∷  -- RLO
+    (80 ∷ 68 ∷ 70 ∷ []) ∷  -- PDF
+    (69 ∷ 78 ∷ []) ∷  -- EN
+    (69 ∷ 83 ∷ []) ∷  -- ES
+    (69 ∷ 84 ∷ []) ∷  -- ET
+    (65 ∷ 78 ∷ []) ∷  -- AN
+    (67 ∷ 83 ∷ []) ∷  -- CS
+    (78 ∷ 83 ∷ 77 ∷ []) ∷  -- NSM
+    (66 ∷ 78 ∷ []) ∷  -- BN
+    (66 ∷ []) ∷  -- B
+    (83 ∷ []) ∷  -- S
+    (87 ∷ 83 ∷ []) ∷  -- WS
+    (79 ∷ 78 ∷ []) ∷  -- ON
     []
 
--- a word names the class whose name it is; an unknown name counts as class 255
+-- an unknown name counts as class 255
 abbrev pub unknownName : ℕ
 unknownName = 255
 
-unfoldable pub classAmong : List Name → List ℕ → ℕ
-classAmong [] word = unknownName
-classAmong (n ∷ ns) word = if sameWord word (n .letters) then n .class else classAmong ns word
-
+-- a word names the class at whose place it stands
 unfoldable pub classNamed : List ℕ → ℕ
-classNamed word = classAmong names word
+classNamed word = placeAmong 0 classNames unknownName word
 
--- a first word other than 0, 1 or 2 is request 3
+-- the requests are the digits 0, 1 and 2, and any other first word is request 3
+abbrev pub requestNames : List (List ℕ)
+requestNames = (48 ∷ []) ∷ (49 ∷ []) ∷ (50 ∷ []) ∷ []
+
 unfoldable pub requestNamed : List ℕ → ℕ
-requestNamed word =
-    if sameWord word (48 ∷ []) then 0 else
-    if sameWord word (49 ∷ []) then 1 else
-    if sameWord word (50 ∷ []) then 2 else 3
+requestNamed word = placeAmong 0 requestNames 3 word
 
 -- a line: its first word is the request, each further word a class. An empty line has no classes
 unfoldable pub requestOf : List ℕ → ℕ

@@ -1,119 +1,68 @@
 // What a word names: a class, or the request at the beginning of a line.
+use crate::SPACE;
+ghost use Prim.Native.Nat.{_<_};
 ghost use mathlib.Core.Path.{_≡_};
-ghost use lib.ListN.{drop};
-ghost use Rattle.words.specs.Words.{sameWord, names, classAmong, classNamed, requestNamed};
+ghost use lib.ListN.{length};
+ghost use Rattle.words.specs.Words.{sameWord, placeAmong, classNamed, requestNamed};
+ghost use Rattle.words.specs.Rows.{nameIn, namesIn};
 
 // The class of a word that names none.
 pub const UNKNOWN_NAME: u8 = 255;
 
-// Byte for byte; words of different lengths are not compared further.
-pub(crate) fn same_word(a: &[u8], b: &[u8]) -> bool
-    ensures { λ r. ⌜ r ≡ sameWord (now (a .entry)) (now (b .entry)) ⌝ }
+// Whether a word is what stands in a row before its first space.
+fn stands_in(word: &[u8], row: &[u8]) -> bool
+    ensures { λ r. ⌜ r ≡ sameWord (now (word .entry)) (nameIn (now (row .entry))) ⌝ }
 {
-    if a.len() != b.len() {
-        return false;
-    }
     let mut i = 0;
-    while i < a.len() {
-        if a[i] != b[i] {
+    while i < word.len() {
+        if i >= row.len() {
+            return false;
+        }
+        if row[i] != word[i] {
+            return false;
+        }
+        if word[i] == SPACE {
             return false;
         }
         i += 1;
     }
+    if i < row.len() {
+        return row[i] == SPACE;
+    }
     true
 }
 
-// The class that a word names, 255 where it names none. The names stand in house order: the strong classes here, the weak
-// and the neutral ones in the next two functions.
+// The place of a word among names in rows of four bytes, or what is answered where it is none of them.
+fn place_among(rows: &[u8], none: u8, word: &[u8]) -> u8
+    requires { ⌜ length (now rows) < 256 ⌝ }
+    ensures { λ r. ⌜ r ≡ placeAmong 0 (namesIn (now (rows .entry))) none (now (word .entry)) ⌝ }
+{
+    let mut at = 0;
+    let mut place = 0;
+    while at + 4 <= rows.len() {
+        if stands_in(word, &rows[at..at + 4]) {
+            return place;
+        }
+        at += 4;
+        place += 1;
+    }
+    none
+}
+
+// The class that a word names. The names stand in house order, so a name's place is its class.
 pub fn class_named(word: &[u8]) -> u8
     ensures { λ r. ⌜ r ≡ classNamed (now (word .entry)) ⌝ }
 {
-    if same_word(word, b"L") {
-        return classes::L;
-    }
-    if same_word(word, b"LRE") {
-        return classes::LRE;
-    }
-    if same_word(word, b"LRO") {
-        return classes::LRO;
-    }
-    if same_word(word, b"R") {
-        return classes::R;
-    }
-    if same_word(word, b"AL") {
-        return classes::AL;
-    }
-    if same_word(word, b"RLE") {
-        return classes::RLE;
-    }
-    if same_word(word, b"RLO") {
-        return classes::RLO;
-    }
-    weak_named(word)
-}
-
-// Of the names from the weak classes on.
-pub(crate) fn weak_named(word: &[u8]) -> u8
-    ensures { λ r. ⌜ r ≡ classAmong (drop 7 names) (now (word .entry)) ⌝ }
-{
-    if same_word(word, b"PDF") {
-        return classes::PDF;
-    }
-    if same_word(word, b"EN") {
-        return classes::EN;
-    }
-    if same_word(word, b"ES") {
-        return classes::ES;
-    }
-    if same_word(word, b"ET") {
-        return classes::ET;
-    }
-    if same_word(word, b"AN") {
-        return classes::AN;
-    }
-    if same_word(word, b"CS") {
-        return classes::CS;
-    }
-    if same_word(word, b"NSM") {
-        return classes::NSM;
-    }
-    if same_word(word, b"BN") {
-        return classes::BN;
-    }
-    neutral_named(word)
-}
-
-// Of the names from the neutral classes on, the last.
-pub(crate) fn neutral_named(word: &[u8]) -> u8
-    ensures { λ r. ⌜ r ≡ classAmong (drop 15 names) (now (word .entry)) ⌝ }
-{
-    if same_word(word, b"B") {
-        return classes::B;
-    }
-    if same_word(word, b"S") {
-        return classes::S;
-    }
-    if same_word(word, b"WS") {
-        return classes::WS;
-    }
-    if same_word(word, b"ON") {
-        return classes::ON;
-    }
-    UNKNOWN_NAME
+    place_among(
+        b"L   LRE LRO R   AL  RLE RLO PDF EN  ES  ET  AN  CS  NSM BN  B   S   WS  ON  ",
+        UNKNOWN_NAME,
+        word,
+    )
 }
 
 // The request that a line's first word names; 3 is none that the library takes.
 pub fn request_named(word: &[u8]) -> u8
     ensures { λ r. ⌜ r ≡ requestNamed (now (word .entry)) ⌝ }
 {
-    if same_word(word, b"0") {
-        return 0;
-    }
-    if same_word(word, b"1") {
-        return 1;
-    }
-    if same_word(word, b"2") {
-        return 2;
-    }
-    3
+    place_among(b"0   1   2   ", 3, word)
 }

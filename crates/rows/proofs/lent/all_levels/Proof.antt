@@ -1,6 +1,6 @@
 -- `rows::lent::all_levels` meets its contract: the index stays within the buffer.
 -- Assumes nothing.
-use Prim.Native.Nat.{_≤_, _-_}
+use Prim.Native.Nat.{_-_, _≤_}
 use lib.ListN.{length}
 use borrow.Author.Needs.{needs}
 use Rattle.rows.proofs.lent.all_levels.Statement.{statement}

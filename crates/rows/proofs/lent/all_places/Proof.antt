@@ -1,16 +1,17 @@
--- `rows::lent::all_places` meets its contract: the index stays within the buffer.
+-- `rows::lent::all_places` meets its contract: what is left of the order falls.
 -- Assumes nothing.
-use Prim.Native.Nat.{_≤_, _-_}
+use Prim.Native.Nat.{_-_}
+use mathlib.Core.Path.{_≡_}
 use lib.ListN.{length}
 use borrow.Author.Needs.{needs}
 use Rattle.rows.proofs.lent.all_places.Statement.{statement}
 use Rattle.rows.proofs.lent.all_places.Tie as tie
 
 abbrev Inv-loop : tie.InvT-loop
-Inv-loop order i₀ i = i ≤ length order
+Inv-loop order from i₀ i = i₀ ≡ from
 
 abbrev μ-loop : tie.MeasureT-loop
-μ-loop order i₀ i = length order - i
+μ-loop order from i₀ i = length order - i
 
 loop-holds : tie.Need-loop-holds Inv-loop μ-loop
 loop-holds c = search needs

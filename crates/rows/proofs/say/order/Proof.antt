@@ -1,15 +1,16 @@
--- `rows::say::order` meets its contract: the count goes up to n.
+-- `rows::say::order` meets its contract: what is left up to `to` falls.
 -- Assumes nothing.
-use Prim.Native.Nat.{_≤_, _-_}
+use Prim.Native.Nat.{_-_}
+use mathlib.Core.Path.{_≡_}
 use borrow.Author.Needs.{needs}
 use Rattle.rows.proofs.say.order.Statement.{statement}
 use Rattle.rows.proofs.say.order.Tie as tie
 
 abbrev Inv-loop : tie.InvT-loop
-Inv-loop order n i₀ i = i ≤ n
+Inv-loop order from to i₀ i = i₀ ≡ from
 
 abbrev μ-loop : tie.MeasureT-loop
-μ-loop order n i₀ i = n - i
+μ-loop order from to i₀ i = to - i
 
 slice-aggregate-text : tie.Need-slice-aggregate-text Inv-loop μ-loop
 slice-aggregate-text c = search needs

@@ -1,112 +1,20 @@
--- `words::names::class_named` meets its contract: each return is one way through the names, and the last is what the later names give.
+-- `words::names::class_named` meets its contract: the names in the text are those of the classes.
 -- Assumes nothing.
-use Rattle.words.specs.Words.{classNamed, classAmong}
-use Rattle.words.proofs.WordLaws.{named-here, named-on}
+use Rattle.words.specs.Words.{partsAt, classNamed}
+use Rattle.words.specs.Rows.{namesIn}
 use borrow.Author.Needs.{needs}
 use Rattle.words.proofs.names.class_named.Statement.{statement}
 use Rattle.words.proofs.names.class_named.Tie as tie
 
-slice-aggregate-same-word : tie.Need-slice-aggregate-same-word
-slice-aggregate-same-word c = search needs
+slice-aggregate-place-among : tie.Need-slice-aggregate-place-among
+slice-aggregate-place-among c = search needs
 
-same-word-requires : tie.Need-same-word-requires
-same-word-requires c κs = search needs
+place-among-requires : tie.Need-place-among-requires
+place-among-requires c κs = search needs
 
 returns : tie.Need-returns
-unfolding classNamed classAmong
-returns c = search (named-here, named-on) depth 10
-
-slice-aggregate-same-word-2 : tie.Need-slice-aggregate-same-word-2
-slice-aggregate-same-word-2 c = search needs
-
-same-word-requires-2 : tie.Need-same-word-requires-2
-same-word-requires-2 c κs = search needs
-
-returns-2 : tie.Need-returns-2
-unfolding classNamed classAmong
-returns-2 c = search (named-here, named-on) depth 10
-
-slice-aggregate-same-word-3 : tie.Need-slice-aggregate-same-word-3
-slice-aggregate-same-word-3 c = search needs
-
-same-word-requires-3 : tie.Need-same-word-requires-3
-same-word-requires-3 c κs = search needs
-
-returns-3 : tie.Need-returns-3
-unfolding classNamed classAmong
-returns-3 c = search (named-here, named-on) depth 10
-
-slice-aggregate-same-word-4 : tie.Need-slice-aggregate-same-word-4
-slice-aggregate-same-word-4 c = search needs
-
-same-word-requires-4 : tie.Need-same-word-requires-4
-same-word-requires-4 c κs = search needs
-
-returns-4 : tie.Need-returns-4
-unfolding classNamed classAmong
-returns-4 c = search (named-here, named-on) depth 10
-
-slice-aggregate-same-word-5 : tie.Need-slice-aggregate-same-word-5
-slice-aggregate-same-word-5 c = search needs
-
-same-word-requires-5 : tie.Need-same-word-requires-5
-same-word-requires-5 c κs = search needs
-
-returns-5 : tie.Need-returns-5
-unfolding classNamed classAmong
-returns-5 c = search (named-here, named-on) depth 10
-
-slice-aggregate-same-word-6 : tie.Need-slice-aggregate-same-word-6
-slice-aggregate-same-word-6 c = search needs
-
-same-word-requires-6 : tie.Need-same-word-requires-6
-same-word-requires-6 c κs = search needs
-
-returns-6 : tie.Need-returns-6
-unfolding classNamed classAmong
-returns-6 c = search (named-here, named-on) depth 10
-
-slice-aggregate-same-word-7 : tie.Need-slice-aggregate-same-word-7
-slice-aggregate-same-word-7 c = search needs
-
-same-word-requires-7 : tie.Need-same-word-requires-7
-same-word-requires-7 c κs = search needs
-
-returns-7 : tie.Need-returns-7
-unfolding classNamed classAmong
-returns-7 c = search (named-here, named-on) depth 10
-
-weak-named-requires : tie.Need-weak-named-requires
-weak-named-requires c κs = search needs
-
-returns-8 : tie.Need-returns-8
-unfolding classNamed classAmong
-returns-8 c = search named-on depth 10
+unfolding partsAt namesIn classNamed
+returns c = c .place-among .ensures
 
 pub class-named-spec : {M : Type 1} → statement M
-class-named-spec =
-    tie.close
-    (tie.spec
-    slice-aggregate-same-word
-    same-word-requires
-    returns
-    slice-aggregate-same-word-2
-    same-word-requires-2
-    returns-2
-    slice-aggregate-same-word-3
-    same-word-requires-3
-    returns-3
-    slice-aggregate-same-word-4
-    same-word-requires-4
-    returns-4
-    slice-aggregate-same-word-5
-    same-word-requires-5
-    returns-5
-    slice-aggregate-same-word-6
-    same-word-requires-6
-    returns-6
-    slice-aggregate-same-word-7
-    same-word-requires-7
-    returns-7
-    weak-named-requires
-    returns-8)
+class-named-spec = tie.close (tie.spec slice-aggregate-place-among place-among-requires returns)
