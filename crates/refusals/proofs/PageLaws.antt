@@ -1,4 +1,4 @@
--- Any two answers of a check that stand for the same finding are equal. Assumes nothing.
+-- Any two answers of a check that stand for the same finding are equal; and a check and then the next. Assumes nothing.
 use mathlib.Core.Path.{_≡_, refl, sym, ap, _∙_}
 use Rattle.rules.specs.Refusals.{Check, sound, refuse, _andThen_}
 use Rattle.laws.proofs.Determined.{determined}
@@ -19,7 +19,7 @@ checked-told (Refused r) = refl
 pub checked-determined : {wanted : Check} {r s : Checked} → checkOf r ≡ wanted → checkOf s ≡ wanted → r ≡ s
 checked-determined {wanted} {r} {s} p q = sym (checked-told r) ∙ ap checkedWith (determined p q) ∙ checked-told s
 
--- ---- a check and then the next: a refusal is the answer, and else the next check's answer is
+-- ---- a check and then the next: its refusal is the answer, or where there is none the answer of the next
 pub ends-there : (check next : Check) {found : Checked} {r : Refusal} → checkOf found ≡ check → found ≡ Refused r → checkOf found ≡ (check andThen next)
 ends-there check next p f =
     let e : check ≡ checkOf (Refused _) = sym p ∙ ap checkOf f in
