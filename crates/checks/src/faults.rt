@@ -36,8 +36,8 @@ pub(crate) fn search_fault(classes: &[u8]) -> Checked
     let mut i = 0;
     while i < classes.len() {
         let found = fault_at(classes, i);
-        if let Checked::Refused(refusal) = found {
-            return Checked::Refused(refusal);
+        if let Checked::Refused(_) = found {
+            return found;
         }
         i += 1;
     }

@@ -33,8 +33,8 @@ pub fn check_classes(classes: &[u8]) -> Checked
     ensures { λ r. ⌜ checkOf r ≡ checkClasses (now (classes .entry)) ⌝ }
 {
     let counted = check_count(classes);
-    if let Checked::Refused(refusal) = counted {
-        return Checked::Refused(refusal);
+    if let Checked::Refused(_) = counted {
+        return counted;
     }
     first_fault(classes)
 }
@@ -57,8 +57,8 @@ pub fn check_levels(classes: &[u8], request: u8, room: usize) -> Checked
     ensures { λ r. ⌜ checkOf r ≡ checksOfLevels (now (classes .entry)) request room ⌝ }
 {
     let first = check_classes(classes);
-    if let Checked::Refused(refusal) = first {
-        return Checked::Refused(refusal);
+    if let Checked::Refused(_) = first {
+        return first;
     }
     check_request(classes, request, room)
 }
@@ -81,8 +81,8 @@ pub fn check_marks(classes: &[u8], flags: usize, places: usize) -> Checked
     ensures { λ r. ⌜ checkOf r ≡ checksOfMarks (now (classes .entry)) flags places ⌝ }
 {
     let counted = check_count(classes);
-    if let Checked::Refused(refusal) = counted {
-        return Checked::Refused(refusal);
+    if let Checked::Refused(_) = counted {
+        return counted;
     }
     check_mark_room(classes, flags, places)
 }

@@ -13,17 +13,13 @@ use refusals::whole;
 ghost use mathlib.Core.Path.{_≡_};
 ghost use Prim.Native.Nat.{_-_};
 ghost use lib.ListN.{length};
-ghost use Rattle.rules.specs.Refusals.{_andThen_, checkLine, checkEnds, checkOrderRoom, endsRiseTo, checksOfOrder, checksOfLine, checksOfLines};
+ghost use Rattle.rules.specs.Refusals.{_andThen_, checkBase, checkLevelRoom, firstBadLevel, checkLine, checkEnds, checkOrderRoom, endsRiseTo, checksOfOrder, checksOfLine, checksOfLines};
 ghost use Rattle.refusals.specs.Page.{checkOf};
 
-// The checks that both forms of Order begin with.
-fn check_order(classes: &[u8], levels: &[u8], base: u8) -> Checked
-    ensures { λ r. ⌜ checkOf r ≡ checksOfOrder (now (classes .entry)) (now (levels .entry)) base ⌝ }
+// 5, 6, then 7: the base and the levels that Order is lent.
+fn check_lent(classes: &[u8], levels: &[u8], base: u8) -> Checked
+    ensures { λ r. ⌜ checkOf r ≡ (checkBase base andThen checkLevelRoom (now (classes .entry)) (length (now (levels .entry))) andThen firstBadLevel 0 (now (classes .entry)) (now (levels .entry))) ⌝ }
 {
-    let first = checks::check_classes(classes);
-    if let Checked::Refused(refusal) = first {
-        return Checked::Refused(refusal);
-    }
     if 1 < base {
         return Checked::Refused(whole(BAD_BASE));
     }
@@ -31,6 +27,17 @@ fn check_order(classes: &[u8], levels: &[u8], base: u8) -> Checked
         return Checked::Refused(whole(SHORT_LEVELS));
     }
     first_bad_level(classes, levels)
+}
+
+// The checks that both forms of Order begin with.
+fn check_order(classes: &[u8], levels: &[u8], base: u8) -> Checked
+    ensures { λ r. ⌜ checkOf r ≡ checksOfOrder (now (classes .entry)) (now (levels .entry)) base ⌝ }
+{
+    let first = checks::check_classes(classes);
+    if let Checked::Refused(_) = first {
+        return first;
+    }
+    check_lent(classes, levels, base)
 }
 
 // 8, then 9 for one line; `places` is how many places the order buffer has.
@@ -61,8 +68,8 @@ pub fn check_line(
     ensures { λ r. ⌜ checkOf r ≡ checksOfLine (now (classes .entry)) (now (levels .entry)) base from to places ⌝ }
 {
     let first = check_order(classes, levels, base);
-    if let Checked::Refused(refusal) = first {
-        return Checked::Refused(refusal);
+    if let Checked::Refused(_) = first {
+        return first;
     }
     check_places(classes, from, to, places)
 }
@@ -105,8 +112,8 @@ pub fn check_lines(classes: &[u8], levels: &[u8], base: u8, ends: &[u16], places
     ensures { λ r. ⌜ checkOf r ≡ checksOfLines (now (classes .entry)) (now (levels .entry)) base (now (ends .entry)) places ⌝ }
 {
     let first = check_order(classes, levels, base);
-    if let Checked::Refused(refusal) = first {
-        return Checked::Refused(refusal);
+    if let Checked::Refused(_) = first {
+        return first;
     }
     check_ends(classes, ends, places)
 }

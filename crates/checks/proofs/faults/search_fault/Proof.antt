@@ -23,17 +23,17 @@ loop-holds c = (omega arith, refl)
 fault-at-requires : tie.Need-fault-at-requires Inv-loop μ-loop
 fault-at-requires c κs = search needs
 
-enum-known-found : tie.Need-enum-known-found Inv-loop μ-loop
-enum-known-found c = search needs
+enum-told : tie.Need-enum-told Inv-loop μ-loop
+enum-told c = search needs
 
 returns : tie.Need-returns Inv-loop μ-loop
 returns c =
-    walk-found _ _ _ _ _ (c .before .before .before .before .loop-test .taken)
-    (sym (c .before .before .before .fault-at .ensures) ∙ ap checkOf (c .before .found .given .1))
-    (c .before .before .before .before .before .loop .inv .1)
+    let at = c .before .before .before in
+    let found = ap checkOf (c .enum-told .given .1) in
+    found ∙ walk-found _ _ _ _ _ (at .loop-test .taken) (sym (c .before .before .fault-at .ensures) ∙ found) (at .before .loop .inv .1)
 
-enum-told : tie.Need-enum-told Inv-loop μ-loop
-enum-told c = search needs
+enum-told-2 : tie.Need-enum-told-2 Inv-loop μ-loop
+enum-told-2 c = search needs
 
 add-i : tie.Need-add-i Inv-loop μ-loop
 add-i c = search needs
@@ -45,7 +45,7 @@ loop-again : tie.Need-loop-again Inv-loop μ-loop
 loop-again c = (
   omega arith,
   walk-step _ _ _ (c .before .before .before .loop-test .taken)
-      (sym (c .before .before .fault-at .ensures) ∙ ap checkOf (c .enum-told .given .1))
+      (sym (c .before .before .fault-at .ensures) ∙ ap checkOf (c .enum-told2 .given .1))
       (c .before .before .before .before .loop .inv .1),
 )
 
@@ -60,9 +60,9 @@ search-fault-spec =
     μ-loop
     loop-holds
     fault-at-requires
-    enum-known-found
-    returns
     enum-told
+    returns
+    enum-told-2
     add-i
     loop-less
     loop-again
