@@ -2,10 +2,10 @@
 // written. Each answers what the definition of that check says, in the page's numbers and places.
 mod faults;
 
+use classes::LONGEST;
 use faults::first_fault;
 use refusals::BAD_BASE;
 use refusals::Checked;
-use refusals::LONGEST;
 use refusals::NO_CLASSES;
 use refusals::SHORT_BUFFER;
 use refusals::SHORT_LEVELS;

@@ -50,6 +50,13 @@ pub const PLACES: usize = HIGHEST as usize + 2;
 // What a level buffer holds at a removed position.
 pub const REMOVED_LEVEL: u8 = 255;
 
+// The most positions of a paragraph, and the highest levels before and after the implicit rules.
+pub const LONGEST: usize = 4096;
+
+pub const HIGHEST_EXPLICIT: u8 = 61;
+
+pub const HIGHEST_RESOLVED: u8 = 62;
+
 // A number above the highest class is no class.
 pub fn is_unknown(c: u8) -> bool
     ensures { λ r. ⌜ r ≡ isUnknown c ⌝ }

@@ -10,7 +10,7 @@ use lib.Dec.{eqb, leb}
 use lib.ListN.{length, getD}
 use Rattle.laws.specs.Choice.{if_then_else_}
 use Rattle.rules.specs.Classes.{L, R, LRE, LRO, RLE, RLO, PDF, isRemoved, isParagraphEnd}
-use Rattle.rules.specs.Explicit.{State, Entry, valid, invalid, Verdict, opensValid, opensInvalid, closesValid, closesInvalid, closesNothing, plain, neutral, X1, leastGreaterOdd, leastGreaterEven, opening, closing, X2, X3, X4, X5, X7, verdict, after, step, X6level, levelHere, typeHere, explicitLevels, explicitTypes, kept}
+use Rattle.rules.specs.Explicit.{State, Entry, valid, invalid, Verdict, opensValid, opensInvalid, closesValid, closesInvalid, closesNothing, plain, neutral, X1, leastGreaterOdd, leastGreaterEven, opening, closing, X2, X3, X4, X5, X7, verdict, after, step, X6level, levelHere, typeHere, explicitLevels, explicitTypes, kept, highestExplicit}
 
 -- equations
 
@@ -84,18 +84,18 @@ length-kept-types base cs =
 
 pub data LowEntries : List Entry → Type 0 where
   none : LowEntries []
-  pair : {l o : ℕ} {es : List Entry} → l ≤ 61 → LowEntries es → LowEntries (valid l o ∷ es)
+  pair : {l o : ℕ} {es : List Entry} → l ≤ highestExplicit → LowEntries es → LowEntries (valid l o ∷ es)
   mark : {es : List Entry} → LowEntries es → LowEntries (invalid ∷ es)
 
 pub record Low (s : State) : Type 0 where
-  pub level : s .level ≤ 61
+  pub level : s .level ≤ highestExplicit
   pub entries : LowEntries (s .unmatched)
 
 -- a verdict that leads to no higher level
 abbrev Lawful : Verdict → Type 0
-Lawful (opensValid l o) = l ≤ 61
+Lawful (opensValid l o) = l ≤ highestExplicit
 Lawful opensInvalid = Unit
-Lawful (closesValid l o) = l ≤ 61
+Lawful (closesValid l o) = l ≤ highestExplicit
 Lawful closesInvalid = Unit
 Lawful closesNothing = Unit
 Lawful plain = Unit
@@ -113,10 +113,10 @@ closing-lawful (invalid ∷ es) (mark f) = tt
 
 opening-lawful : (l o : ℕ) → Lawful (opening l o)
 unfolding opening
-opening-lawful l o = go (leb l 61) refl
+opening-lawful l o = go (leb l highestExplicit) refl
   where
-    go : (b : Bool) → leb l 61 ≡ b → Lawful (if b then opensValid l o else opensInvalid)
-    go true e = leb-true l 61 e
+    go : (b : Bool) → leb l highestExplicit ≡ b → Lawful (if b then opensValid l o else opensInvalid)
+    go true e = leb-true l highestExplicit e
     go false e = tt
 
 if-lawful : (b : Bool) (v w : Verdict) → Lawful v → Lawful w → Lawful (if b then v else w)
@@ -149,26 +149,26 @@ pub start-low : (base : ℕ) → base ≤ 1 → Low (X1 base)
 unfolding X1
 start-low base h = record { level = omega arith; entries = none }
 
-if-low : (b : Bool) {x y : ℕ} → x ≤ 61 → y ≤ 61 → (if b then x else y) ≤ 61
+if-low : (b : Bool) {x y : ℕ} → x ≤ highestExplicit → y ≤ highestExplicit → (if b then x else y) ≤ highestExplicit
 if-low true h k = h
 if-low false h k = k
 
-here-low : (base : ℕ) (s : State) (c : ℕ) → base ≤ 61 → Low s → isRemoved c ≡ false → levelHere base s c ≤ 61
+here-low : (base : ℕ) (s : State) (c : ℕ) → base ≤ highestExplicit → Low s → isRemoved c ≡ false → levelHere base s c ≤ highestExplicit
 unfolding levelHere X6level
 here-low base s c b h e = rw e (if-low (isParagraphEnd c) b (h .level))
 
-pub kept-levels-low : (base : ℕ) (s : State) (cs : List ℕ) → base ≤ 61 → Low s → (i : ℕ)
-    → getD (kept cs (explicitLevels base s cs)) i 0 ≤ 61
+pub kept-levels-low : (base : ℕ) (s : State) (cs : List ℕ) → base ≤ highestExplicit → Low s → (i : ℕ)
+    → getD (kept cs (explicitLevels base s cs)) i 0 ≤ highestExplicit
 unfolding kept explicitLevels
 kept-levels-low base s [] b h i = zero-le
 kept-levels-low base s (c ∷ cs) b h i = go (isRemoved c) refl (kept-levels-low base (step s c) cs b (step-low s c h)) i
   where
-    go : (r : Bool) → isRemoved c ≡ r → ((j : ℕ) → getD (kept cs (explicitLevels base (step s c) cs)) j 0 ≤ 61) → (j : ℕ)
-        → getD (if r then kept cs (explicitLevels base (step s c) cs) else levelHere base s c ∷ kept cs (explicitLevels base (step s c) cs)) j 0 ≤ 61
+    go : (r : Bool) → isRemoved c ≡ r → ((j : ℕ) → getD (kept cs (explicitLevels base (step s c) cs)) j 0 ≤ highestExplicit) → (j : ℕ)
+        → getD (if r then kept cs (explicitLevels base (step s c) cs) else levelHere base s c ∷ kept cs (explicitLevels base (step s c) cs)) j 0 ≤ highestExplicit
     go true e rest j = rest j
     go false e rest zero = here-low base s c b h e
     go false e rest (suc j) = rest j
 
 -- what the phase writes on kept positions is at most 61
-pub explicit-at-most-61 : (base : ℕ) (cs : List ℕ) → base ≤ 1 → (i : ℕ) → getD (kept cs (explicitLevels base (X1 base) cs)) i 0 ≤ 61
-explicit-at-most-61 base cs h = kept-levels-low base (X1 base) cs (omega arith) (start-low base h)
+pub kept-low : (base : ℕ) (cs : List ℕ) → base ≤ 1 → (i : ℕ) → getD (kept cs (explicitLevels base (X1 base) cs)) i 0 ≤ highestExplicit
+kept-low base cs h = kept-levels-low base (X1 base) cs (omega arith) (start-low base h)

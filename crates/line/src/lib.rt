@@ -116,7 +116,7 @@ pub fn order_line(
         let mut short = [0u8; 64];
         return order_with(line, own, base, from, &mut short, order);
     }
-    let mut long = [0u8; 4096];
+    let mut long = [0u8; classes::LONGEST];
     order_with(line, own, base, from, &mut long, order)
 }
 

@@ -11,7 +11,7 @@ use lib.Dec.{eqb}
 use lib.ListN.{getD, set, replicate, length-set}
 use lib.Seq.{getD-set-same, getD-set-other}
 use Rattle.laws.proofs.Lists.{le-or-lt}
-use Rattle.rules.specs.Explicit.{State, Entry, valid, invalid, neutral, X1, after, opensValid, opensInvalid, closesValid, closesInvalid, closing, opening, plain, leastGreaterOdd, leastGreaterEven, X2, X3, X4, X5, X7, verdict, step}
+use Rattle.rules.specs.Explicit.{State, Entry, valid, invalid, neutral, X1, after, opensValid, opensInvalid, closesValid, closesInvalid, closing, opening, plain, leastGreaterOdd, leastGreaterEven, X2, X3, X4, X5, X7, verdict, step, highestExplicit}
 use Rattle.laws.proofs.Passes.{by-test}
 use Rattle.rules.specs.Classes.{LRE, LRO, PDF, RLE, RLO, isOpening}
 use Rattle.laws.specs.Choice.{if_then_else_, isOdd}
@@ -20,29 +20,29 @@ use Rattle.machine.specs.declared.Machine.{Machine}
 use Rattle.machine.specs.declared.Verdict.{Verdict}
 use Rattle.machine.specs.declared.Verdict.the-variants.{OpensValid, OpensInvalid, ClosesValid, ClosesInvalid, ClosesNothing}
 use Rattle.machine.specs.Steps.{levelAsked, overrideAsked, Shown, Recounted, Judged}
-use Rattle.machine.specs.Meaning.{invalidAt, remembered, rememberedBy, invalidHere, meaning, verdictOf}
+use Rattle.machine.specs.Meaning.{invalidAt, remembered, rememberedBy, invalidHere, meaning, verdictOf, nextToHighest}
 use Rattle.machine.specs.Sound.{Falls, none, more, Only61, Only60, Sound, counts, Stands}
 
 -- the invalid codes at a level
 
-invalidAt-61 : (n60 n61 : ℕ) {l : ℕ} → l ≡ 61 → invalidAt n60 n61 l ≡ n61
+invalidAt-61 : (n60 n61 : ℕ) {l : ℕ} → l ≡ highestExplicit → invalidAt n60 n61 l ≡ n61
 unfolding invalidAt
 invalidAt-61 n60 n61 e = ap (invalidAt n60 n61) e
 
-invalidAt-60 : (n60 n61 : ℕ) {l : ℕ} → l ≡ 60 → invalidAt n60 n61 l ≡ n60
+invalidAt-60 : (n60 n61 : ℕ) {l : ℕ} → l ≡ nextToHighest → invalidAt n60 n61 l ≡ n60
 unfolding invalidAt
 invalidAt-60 n60 n61 e = ap (invalidAt n60 n61) e
 
-invalidAt-below : (n60 n61 : ℕ) {l : ℕ} → l < 60 → invalidAt n60 n61 l ≡ 0
+invalidAt-below : (n60 n61 : ℕ) {l : ℕ} → l < nextToHighest → invalidAt n60 n61 l ≡ 0
 unfolding invalidAt
-invalidAt-below n60 n61 {l} h = simp (ne-eqb l 61 (omega arith), ne-eqb l 60 (omega arith))
+invalidAt-below n60 n61 {l} h = simp (ne-eqb l highestExplicit (omega arith), ne-eqb l nextToHighest (omega arith))
 
 -- below 61 the count at 61 does not bear, below 60 that at 60 neither
-below-61 : (n60 n61 m61 k : ℕ) → k < 61 → invalidAt n60 n61 k ≡ invalidAt n60 m61 k
+below-61 : (n60 n61 m61 k : ℕ) → k < highestExplicit → invalidAt n60 n61 k ≡ invalidAt n60 m61 k
 unfolding invalidAt
-below-61 n60 n61 m61 k h = simp (ne-eqb k 61 (omega arith))
+below-61 n60 n61 m61 k h = simp (ne-eqb k highestExplicit (omega arith))
 
-below-60 : (n60 n61 m60 k : ℕ) → k < 60 → invalidAt n60 n61 k ≡ invalidAt m60 n61 k
+below-60 : (n60 n61 m60 k : ℕ) → k < nextToHighest → invalidAt n60 n61 k ≡ invalidAt m60 n61 k
 below-60 n60 n61 m60 k h = invalidAt-below n60 n61 h ∙ sym (invalidAt-below m60 n61 h)
 
 either : (P : ℕ → Type 0) (b : Bool) {x y : ℕ} → P x → P y → P (if b then x else y)
@@ -52,27 +52,27 @@ either P false p q = q
 pub count-below : (m : Machine) → invalidHere m ≤ counts m
 unfolding invalidAt
 count-below m =
-    either (λ (n : ℕ). n ≤ counts m) (eqb (m .level) 61) (omega arith)
-    (either (λ (n : ℕ). n ≤ counts m) (eqb (m .level) 60) (omega arith) (omega arith))
+    either (λ (n : ℕ). n ≤ counts m) (eqb (m .level) highestExplicit) (omega arith)
+    (either (λ (n : ℕ). n ≤ counts m) (eqb (m .level) nextToHighest) (omega arith) (omega arith))
 
 -- a count that is not 0 stands at 60 or 61
-pub counted-high : (m : Machine) → 0 < invalidHere m → 60 ≤ m .level
-counted-high m h = go (le-or-lt 60 (m .level))
+pub counted-high : (m : Machine) → 0 < invalidHere m → nextToHighest ≤ m .level
+counted-high m h = go (le-or-lt nextToHighest (m .level))
   where
-    go : (60 ≤ m .level) ⊎ (m .level < 60) → 60 ≤ m .level
+    go : (nextToHighest ≤ m .level) ⊎ (m .level < nextToHighest) → nextToHighest ≤ m .level
     go (inl k) = k
     go (inr k) = absurd (omega (arith, invalidAt-below (m .invalid60) (m .invalid61) k))
 
 -- above its level a machine counts none
 module _ (m : Machine) (s : Sound m) where
-  none-at-61 : m .level < 61 → m .invalid61 ≡ 0
+  none-at-61 : m .level < highestExplicit → m .invalid61 ≡ 0
   none-at-61 h = go (s .only61)
     where
       go : Only61 (m .invalid61) (m .level) → m .invalid61 ≡ 0
       go (inl e) = e
       go (inr e) = absurd (omega arith)
 
-  none-at-60 : m .level < 60 → m .invalid60 ≡ 0
+  none-at-60 : m .level < nextToHighest → m .invalid60 ≡ 0
   none-at-60 h = go (s .only60)
     where
       go : Only60 (m .invalid60) (m .level) (getD (m .levels) (m .depth - 1) 0) → m .invalid60 ≡ 0
@@ -80,10 +80,10 @@ module _ (m : Machine) (s : Sound m) where
       go (inr (inl e)) = absurd (omega arith)
       go (inr (inr e)) = absurd (omega arith)
 
-  none-above : (new : ℕ) → m .level < new → new ≤ 61 → invalidAt (m .invalid60) (m .invalid61) new ≡ 0
-  none-above new h k = go (le-or-lt 60 new) (le-or-lt 61 new)
+  none-above : (new : ℕ) → m .level < new → new ≤ highestExplicit → invalidAt (m .invalid60) (m .invalid61) new ≡ 0
+  none-above new h k = go (le-or-lt nextToHighest new) (le-or-lt highestExplicit new)
     where
-      go : (60 ≤ new) ⊎ (new < 60) → (61 ≤ new) ⊎ (new < 61) → invalidAt (m .invalid60) (m .invalid61) new ≡ 0
+      go : (nextToHighest ≤ new) ⊎ (new < nextToHighest) → (highestExplicit ≤ new) ⊎ (new < highestExplicit) → invalidAt (m .invalid60) (m .invalid61) new ≡ 0
       go a (inl e) = invalidAt-61 _ _ (omega arith) ∙ none-at-61 (omega arith)
       go (inl d) (inr e) = invalidAt-60 _ _ (omega arith) ∙ none-at-60 (omega arith)
       go (inr d) (inr e) = invalidAt-below _ _ d
@@ -137,8 +137,8 @@ remembered-counts {levels} overrides n60 n61 m60 m61 (more {d = d} b f) same =
 
 pub begun : (base : ℕ) (m : Machine) → base ≤ 1
     → m ≡ record {
-      levels = replicate 61 0;
-      overrides = replicate 61 0;
+      levels = replicate highestExplicit 0;
+      overrides = replicate highestExplicit 0;
       depth = 0;
       level = base;
       over = neutral;
@@ -148,7 +148,7 @@ pub begun : (base : ℕ) (m : Machine) → base ≤ 1
     → Stands m (X1 base) 0
 unfolding X1 remembered
 begun base m h e =
-    let low : base < 60 = omega arith in
+    let low : base < nextToHighest = omega arith in
     rw e (record {
       sound = record {
         levels = refl;
@@ -165,7 +165,7 @@ begun base m h e =
 
 -- a valid code: the pair is remembered
 
-module _ (m : Machine) (s : Sound m) (new over : ℕ) (up : m .level < new) (fits : new ≤ 61) where
+module _ (m : Machine) (s : Sound m) (new over : ℕ) (up : m .level < new) (fits : new ≤ highestExplicit) where
   abbrev opened : Machine
   opened = record {
     levels = set (m .levels) (m .depth) (m .level);
@@ -177,7 +177,7 @@ module _ (m : Machine) (s : Sound m) (new over : ℕ) (up : m .level < new) (fit
     invalid61 = m .invalid61;
   }
 
-  room : m .depth < 61
+  room : m .depth < highestExplicit
   room = omega (arith, falls-depth (s .falls))
 
   level-kept : getD (opened .levels) (m .depth) 0 ≡ m .level
@@ -187,12 +187,12 @@ module _ (m : Machine) (s : Sound m) (new over : ℕ) (up : m .level < new) (fit
   override-kept = getD-set-same (m .overrides) (m .depth) (m .over) 0 (omega (arith, room, s .overrides))
 
   opened-only60 : Only60 (m .invalid60) new (getD (opened .levels) (m .depth + 1 - 1) 0)
-  opened-only60 = go (le-or-lt 60 (m .level))
+  opened-only60 = go (le-or-lt nextToHighest (m .level))
     where
-      go : (60 ≤ m .level) ⊎ (m .level < 60) → Only60 (m .invalid60) new (getD (opened .levels) (m .depth + 1 - 1) 0)
+      go : (nextToHighest ≤ m .level) ⊎ (m .level < nextToHighest) → Only60 (m .invalid60) new (getD (opened .levels) (m .depth + 1 - 1) 0)
       go (inl h) =
           let e : m .depth + 1 - 1 ≡ m .depth = omega arith in
-          let l : m .level ≡ 60 = omega arith in
+          let l : m .level ≡ nextToHighest = omega arith in
           inr (inr (omega arith, rw e (level-kept ∙ l)))
       go (inr h) = inl (none-at-60 m s h)
 
@@ -309,12 +309,12 @@ module _ (m : Machine) (s : Sound m) (n : ℕ) where
         counted = count;
       }
 
-  pub recounted-61 : m .level ≡ 61 → Recounted m n (withCounts m (m .invalid60) n)
+  pub recounted-61 : m .level ≡ highestExplicit → Recounted m n (withCounts m (m .invalid60) n)
   recounted-61 e =
       recounted (m .invalid60) n (invalidAt-61 (m .invalid60) n e) (λ k h. below-61 (m .invalid60) n (m .invalid61) k (omega arith)) (inr e) (s .only60)
       (omega (arith, invalidAt-61 (m .invalid60) (m .invalid61) e))
 
-  pub recounted-60 : m .level ≡ 60 → Recounted m n (withCounts m n (m .invalid61))
+  pub recounted-60 : m .level ≡ nextToHighest → Recounted m n (withCounts m n (m .invalid61))
   recounted-60 e =
       recounted n (m .invalid61) (invalidAt-60 n (m .invalid61) e) (λ k h. below-60 n (m .invalid61) (m .invalid60) k (omega arith)) (s .only61) (inr (inl e))
       (omega (arith, invalidAt-60 (m .invalid60) (m .invalid61) e))
@@ -376,17 +376,17 @@ module _ (m : Machine) (c : ℕ) where
   asked-near : levelAsked c (m .level) ≤ m .level + 2
   asked-near = asked (λ (n : ℕ). n ≤ m .level + 2) c (m .level) (omega arith) (omega arith)
 
-  pub opening-valid : (new over : ℕ) → new ≡ levelAsked c (m .level) → over ≡ overrideAsked c → new ≤ 61
+  pub opening-valid : (new over : ℕ) → new ≡ levelAsked c (m .level) → over ≡ overrideAsked c → new ≤ highestExplicit
       → Judged m (opening (levelAsked c (m .level)) (overrideAsked c)) (OpensValid new over)
   unfolding opening
   opening-valid new over e f h =
-      record { says = rw (← e, ← f, le-leb new 61 h); shown = (rw e asked-above, h) }
+      record { says = rw (← e, ← f, le-leb new highestExplicit h); shown = (rw e asked-above, h) }
 
-  pub opening-invalid : (new : ℕ) → new ≡ levelAsked c (m .level) → 61 < new
+  pub opening-invalid : (new : ℕ) → new ≡ levelAsked c (m .level) → highestExplicit < new
       → Judged m (opening (levelAsked c (m .level)) (overrideAsked c)) OpensInvalid
   unfolding opening
   opening-invalid new e h =
-      record { says = rw (← e, lt-leb new 61 h); shown = omega (arith, asked-near) }
+      record { says = rw (← e, lt-leb new highestExplicit h); shown = omega (arith, asked-near) }
 
 -- the verdict on a class
 

@@ -8,9 +8,6 @@ ghost use Rattle.machine.specs.Steps.{levelAsked, overrideAsked, Shown, 
 ghost use Rattle.machine.specs.Meaning.{meaning, invalidHere, nextToHighest};
 ghost use Rattle.machine.specs.Sound.{Sound, counts, Stands};
 
-// The highest level that a code may take.
-const HIGHEST: u8 = 61;
-
 // Where a code that asks for an even level is invalid too.
 const NEXT_TO_HIGHEST: u8 = 60;
 
@@ -110,7 +107,7 @@ impl Machine {
         ensures { λ r. ⌜ r ≡ invalidHere self ⌝ }
     {
         let level = self.level;
-        if level == HIGHEST {
+        if level == classes::HIGHEST_EXPLICIT {
             return self.invalid61;
         }
         if level == NEXT_TO_HIGHEST {
@@ -124,7 +121,7 @@ impl Machine {
         requires { ⌜ Sound self × (nextToHighest ≤ self .level) ⌝ }
         ensures { λ r. ⌜ Recounted self n r ⌝ }
     {
-        if self.level == HIGHEST {
+        if self.level == classes::HIGHEST_EXPLICIT {
             self.invalid61 = n;
             return self;
         }
@@ -138,7 +135,7 @@ impl Machine {
         ensures { λ r. ⌜ Judged self (opening (levelAsked class (self .level)) (overrideAsked class)) r ⌝ }
     {
         let new = level_asked(class, self.level);
-        if new <= HIGHEST {
+        if new <= classes::HIGHEST_EXPLICIT {
             return Verdict::OpensValid(new, override_asked(class));
         }
         Verdict::OpensInvalid

@@ -17,7 +17,7 @@ use Rattle.melvorash.specs.declared.answers.OrderAnswer.{OrderAnswer}
 use Rattle.melvorash.specs.declared.answers.OrderAnswer.the-variants as Ordering
 
 -- a page that some function reads back tells its answers apart
-pub told-apart : {A R : Type 0} (page : A → R) (back : R → A) → ((a : A) → back (page a) ≡ a) → {wanted : R} (a b : A) → page a ≡ wanted → page b ≡ wanted → a ≡ b
+pub told-apart : {A B : Type 0} (page : A → B) (back : B → A) → ((a : A) → back (page a) ≡ a) → {wanted : B} (a b : A) → page a ≡ wanted → page b ≡ wanted → a ≡ b
 told-apart page back reads a b p q = sym (reads a) ∙ ap back (determined p q) ∙ reads b
 
 module _ {A B : Type 0} (page : B → Answer A) (back : Answer A → B) (reads : (b : B) → back (page b) ≡ b) where

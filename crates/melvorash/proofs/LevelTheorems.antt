@@ -19,7 +19,7 @@ use Rattle.rules.specs.Jobs.{Answer, accepted, refused, answered, levelsAnswer,
 use Rattle.laws.proofs.Passes.{by-test}
 use Rattle.rules.proofs.SoundLaws.{never-sound, levels-sound}
 use Rattle.paragraph.proofs.BaseLaws.{baseOf-small}
-use Rattle.explicit.proofs.ExplicitLaws.{length-levels, explicit-at-most-61}
+use Rattle.explicit.proofs.ExplicitLaws.{length-levels, kept-low}
 use Rattle.resolve.proofs.BoundLaws.{AtMost, at-most-all, resolved-accepted}
 use Rattle.resolve.proofs.WholeLaws.{length-resolved}
 use Rattle.rules.proofs.JobLaws.{accepted-sound, never-both}
@@ -60,7 +60,7 @@ module _ (cs : List ℕ) (request : ℕ) (levels : List ℕ) (answer : Answer �
         let small : baseOf request cs ≤ 1 = baseOf-small request cs (levels-sound cs request (length levels) (s .0) .asked) in
         let written : after ≡ over (explicitLevels (baseOf request cs) (X1 (baseOf request cs)) cs) levels = p .buffer ∙ rw (s .0) in
         rw (written, kept-over cs (explicitLevels (baseOf request cs) (X1 (baseOf request cs)) cs) _ (length-levels (baseOf request cs) (X1 (baseOf request cs)) cs))
-        (at-most-all highestExplicit (kept cs (explicitLevels (baseOf request cs) (X1 (baseOf request cs)) cs)) (explicit-at-most-61 (baseOf request cs) cs small))
+        (at-most-all highestExplicit (kept cs (explicitLevels (baseOf request cs) (X1 (baseOf request cs)) cs)) (kept-low (baseOf request cs) cs small))
 
   module _ (p : Leaves (levelsAnswer cs request levels) (resolveBuffer cs request levels) answer after) (a : answer ≡ accepted base) where
     resolved : (checksOfLevels cs request (length levels) ≡ sound) × (baseOf request cs ≡ base)

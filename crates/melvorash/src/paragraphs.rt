@@ -18,7 +18,7 @@ pub fn cut(classes: &[u8]) -> CutAnswer
     }
     let mut i = 0;
     while i < classes.len() {
-        if i == refusals::LONGEST {
+        if i == classes::LONGEST {
             return CutAnswer::Refused(refusals::whole(TOO_LONG));
         }
         let class = classes[i];

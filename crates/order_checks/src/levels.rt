@@ -1,7 +1,7 @@
 // Refusal 7: the first lent level that does not fit its position.
+use classes::HIGHEST_RESOLVED;
 use refusals::BAD_LEVEL;
 use refusals::Checked;
-use refusals::HIGHEST_RESOLVED;
 use refusals::at;
 ghost use mathlib.Core.Path.{_≡_};
 ghost use Prim.Native.Nat.{_≤_};

@@ -2,11 +2,6 @@
 ghost use mathlib.Core.Path.{_≡_};
 ghost use Rattle.refusals.specs.Page.{refusalWith};
 
-// The longest paragraph, and the highest resolved level.
-pub const LONGEST: usize = 4096;
-
-pub const HIGHEST_RESOLVED: u8 = 62;
-
 // The numbers of the page's refusals.
 pub const NO_CLASSES: u8 = 1;
 

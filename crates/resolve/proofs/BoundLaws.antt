@@ -17,7 +17,7 @@ use Rattle.rules.specs.Neutral.{N1, N2}
 use Rattle.rules.specs.Resolve.{resolveRun, resolveRuns, resolveKept, resolvedLevels}
 use Rattle.rules.specs.Refusals.{sound, highestResolved, isBadLevel, firstBadLevel}
 use Rattle.laws.proofs.Passes.{by-test}
-use Rattle.explicit.proofs.ExplicitLaws.{length-levels, length-kept-types, explicit-at-most-61}
+use Rattle.explicit.proofs.ExplicitLaws.{length-levels, length-kept-types, kept-low}
 use Rattle.weak.proofs.WeakLaws.{length-weak}
 use Rattle.neutral.proofs.NeutralLaws.{length-N}
 use Rattle.neutral.proofs.ImplicitLaws.{implicitLevel-within, length-implicit}
@@ -125,5 +125,5 @@ resolved-accepted base cs rest h =
     let types = kept cs (explicitTypes (X1 base) cs) in
     let same : total (runLengths levels) ≡ length types = total-lengths levels ∙ sym (length-kept-types base cs) in
     none-bad 0 cs (resolveRuns base base levels types (runLengths levels)) rest
-    (runs-low base base levels types (runLengths levels) (omega arith) (at-most-all highestExplicit levels (explicit-at-most-61 base cs h)))
+    (runs-low base base levels types (runLengths levels) (omega arith) (at-most-all highestExplicit levels (kept-low base cs h)))
     (omega (arith, length-runs base base levels types (runLengths levels) same, length-kept-types base cs, length-kept-in cs (explicitLevels base (X1 base) cs) (length-levels base (X1 base) cs), kept-is cs))

@@ -11,7 +11,7 @@ use Rattle.rules.specs.Explicit.{highestExplicit, X1, explicitLevels, explicitT
 use Rattle.rules.specs.Resolve.{resolveKept, resolvedLevels}
 use Rattle.laws.specs.Parts.{over}
 use Rattle.explicit.specs.Promises.{Gathered}
-use Rattle.explicit.proofs.ExplicitLaws.{length-levels, length-kept, length-kept-types, explicit-at-most-61}
+use Rattle.explicit.proofs.ExplicitLaws.{length-levels, length-kept, length-kept-types, kept-low}
 use Rattle.laws.proofs.Passes.{by-test}
 
 -- ---- lengths
@@ -76,7 +76,7 @@ module _ {base : ℕ} {cs ls₀ ts₀ ls ts : List ℕ} {n : ℕ} (g : Gathered 
 
   pub front-low : (k : ℕ) → getD (take n ls) k 0 + 2 < 256
   front-low k =
-      let low : getD (take n ls) k 0 ≤ highestExplicit = rw front-levels (explicit-at-most-61 base cs (room .0) k) in
+      let low : getD (take n ls) k 0 ≤ highestExplicit = rw front-levels (kept-low base cs (room .0) k) in
       omega arith
 
   pub count-kept : n ≡ length (kept cs cs)

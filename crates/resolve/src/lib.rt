@@ -41,6 +41,6 @@ pub fn resolve_levels(classes: &[u8], base: u8, levels: &mut [u8])
         resolve_in(classes, base, levels, &mut few);
         return;
     }
-    let mut many = [0u8; 4096];
+    let mut many = [0u8; classes::LONGEST];
     resolve_in(classes, base, levels, &mut many);
 }
