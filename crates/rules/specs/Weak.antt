@@ -66,6 +66,7 @@ W6 ts = map changeW6 ts
 unfoldable pub changeW7 : ℕ → ℕ → ℕ
 changeW7 strong t = if eqb t EN && eqb strong L then L else t
 
+-- the strong types after W3, by which AL is R
 unfoldable pub isSide : ℕ → Bool
 isSide t = eqb t R || eqb t L
 

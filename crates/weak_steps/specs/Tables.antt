@@ -17,6 +17,7 @@ keeps changes t = if changes t then 0 else 255
 abbrev pub gives : (ℕ → Bool) → (ℕ → ℕ) → ℕ → ℕ
 gives changes new t = if changes t then new t else 0
 
+-- whether a rule changes a type
 abbrev pub alters : (ℕ → ℕ) → ℕ → Bool
 alters rule t = not (eqb (rule t) t)
 
@@ -28,11 +29,11 @@ rows other behind strong =
     ∷ gives (alters other) other ∷ gives (alters behind) behind
     ∷ keeps strong ∷ gives strong (λ t. t) ∷ []
 
--- W2 and W3, where AL makes a difference
+-- W2 and W3, where AL makes a difference; L stands for any other strong type
 unfoldable pub early : List ℕ
 early = tableOf places (rows (λ t. changeW3 (changeW2 L t)) (λ t. changeW3 (changeW2 AL t)) isStrong)
 
--- W6 and W7, where L makes a difference
+-- W6 and W7, where L makes a difference; R stands for any other
 unfoldable pub late : List ℕ
 late = tableOf places (rows (λ t. changeW7 R (changeW6 t)) (λ t. changeW7 L (changeW6 t)) isSide)
 
