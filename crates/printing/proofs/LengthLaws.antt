@@ -12,7 +12,7 @@ use Rattle.rules.specs.Classes.{isUnknown, isParagraphEnd}
 use Rattle.rules.specs.Paragraph.{baseOf}
 use Rattle.rules.specs.Resolve.{resolvedLevels}
 use Rattle.rules.specs.Line.{lineOrder}
-use Rattle.rules.specs.Refusals.{Check, sound, refuse, _andThen_, refuseWhere, isEmpty, checkSome, checkLength, faultAt, firstFault, checkClasses, checkRequest, firstBadLevel}
+use Rattle.rules.specs.Refusals.{Check, sound, refuse, _andThen_, refuseWhere, isEmpty, checkSome, checkLength, faultAt, firstFault, checkClasses, checkRequest, firstBadLevel, longestParagraph}
 use Rattle.refusals.proofs.SoundLaws.{test-fails, levels-sound}
 use Rattle.paragraph.proofs.BaseLaws.{baseOf-small}
 use Rattle.resolve.proofs.WholeLaws.{length-resolved}
@@ -55,21 +55,21 @@ within-faults limit at (c ∷ cs) h =
     within-then limit (faultAt at c cs) (firstFault (suc at) cs) (within-fault limit at c cs (omega arith))
     (λ e. within-faults limit (suc at) cs (omega arith))
 
-few : (cs : List ℕ) → checkLength cs ≡ sound → length cs ≤ 4096
+few : (cs : List ℕ) → checkLength cs ≡ sound → length cs ≤ longestParagraph
 unfolding checkLength
-few cs e = ltb-false 4096 (length cs) (test-fails _ _ e)
+few cs e = ltb-false longestParagraph (length cs) (test-fails _ _ e)
 
-told-within : (cs : List ℕ) (request : ℕ) → Within 4096 (checkClasses cs andThen checkRequest request)
+told-within : (cs : List ℕ) (request : ℕ) → Within longestParagraph (checkClasses cs andThen checkRequest request)
 unfolding checkClasses checkSome checkLength checkRequest
 told-within cs request =
-    within-then 4096 (checkClasses cs) (checkRequest request)
-    (within-then 4096 (checkSome cs) (checkLength cs andThen firstFault 0 cs) (within-where 4096 1 (isEmpty cs) (omega arith) (omega arith))
-    (λ e. within-then 4096 (checkLength cs) (firstFault 0 cs) (within-where 4096 3 (ltb 4096 (length cs)) (omega arith) (omega arith))
-    (λ l. within-faults 4096 0 cs (omega (arith, few cs l)))))
-    (λ e. within-where 4096 5 (ltb 2 request) (omega arith) (omega arith))
+    within-then longestParagraph (checkClasses cs) (checkRequest request)
+    (within-then longestParagraph (checkSome cs) (checkLength cs andThen firstFault 0 cs) (within-where longestParagraph 1 (isEmpty cs) (omega arith) (omega arith))
+    (λ e. within-then longestParagraph (checkLength cs) (firstFault 0 cs) (within-where longestParagraph 3 (ltb longestParagraph (length cs)) (omega arith) (omega arith))
+    (λ l. within-faults longestParagraph 0 cs (omega (arith, few cs l)))))
+    (λ e. within-where longestParagraph 5 (ltb 2 request) (omega arith) (omega arith))
 
 -- ---- three rows: two digits for a level, four for a position
-rows-short : (base : ℕ) (cs : List ℕ) → base ≤ 1 → length cs ≤ 4096 → length (paragraphRows base (resolvedLevels base cs) (lineOrder base cs (resolvedLevels base cs) 0 (length cs))) < mostOutput
+rows-short : (base : ℕ) (cs : List ℕ) → base ≤ 1 → length cs ≤ longestParagraph → length (paragraphRows base (resolvedLevels base cs) (lineOrder base cs (resolvedLevels base cs) 0 (length cs))) < mostOutput
 unfolding paragraphRows
 rows-short base cs low h =
     let levels = resolvedLevels base cs in
@@ -77,16 +77,16 @@ rows-short base cs low h =
     let long : length levels ≡ length cs = length-resolved base cs in
     let fine : firstBadLevel 0 cs levels ≡ sound = ap (firstBadLevel 0 cs) (sym (append-nil levels)) ∙ resolved-accepted base cs [] low in
     let shown = demand3 base cs levels 0 (length cs) (omega arith) (omega arith) (omega arith) in
-    let near : (i : ℕ) → i < length order → getD order i 0 < 4096 = λ i g. let b : getD order i 0 < length cs = shown .only i g .before in omega arith in
+    let near : (i : ℕ) → i < length order → getD order i 0 < 10000 = λ i g. let b : getD order i 0 < length cs = shown .only i g .before in omega arith in
     let count : length order ≤ length cs = omega (arith, length-lineOrder base cs levels 0 (length cs) (omega arith)) in
     let rows = length-append (baseRow base ++ levelsRow levels) (orderRow order) in
     let first = length-append (baseRow base) (levelsRow levels) in
     omega (arith, rows, first, base-row-size base low, levels-row-size cs levels long fine, order-row-size order near)
 
-told-short : (check : Check) (cs : List ℕ) (request : ℕ) → (checkClasses cs andThen checkRequest request) ≡ check → Within 4096 check → length (paragraphText request cs) < mostOutput
+told-short : (check : Check) (cs : List ℕ) (request : ℕ) → (checkClasses cs andThen checkRequest request) ≡ check → Within longestParagraph check → length (paragraphText request cs) < mostOutput
 unfolding paragraphText
 told-short sound cs request e w =
-    let s = levels-sound cs request 4096 (checks-told cs request 4096 (omega arith) ∙ e) in
+    let s = levels-sound cs request longestParagraph (checks-told cs request longestParagraph (omega arith) ∙ e) in
     rw e (rows-short (baseOf request cs) cs (baseOf-small request cs (s .asked)) (s .few))
 told-short (refuse number place) cs request e w =
     let size = refused-row-size number place (w .0) (omega (arith, w .1)) in
