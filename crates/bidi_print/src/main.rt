@@ -2,7 +2,7 @@
 // What the system reads and writes cannot be stated; all else is in functions that are proved.
 fn main() {
     let mut input = io::large_buffer();
-    let mut out = [0u8; 36864];
+    let mut out = [0u8; printing::MOST_OUTPUT];
     let count = io::read_full(libc::STDIN_FILENO, &mut input);
     print_lines(&input[..count], &mut out);
 }

@@ -50,7 +50,7 @@ rows-short base cs low h =
     let long : length levels ≡ length cs = length-resolved base cs in
     let fine : firstBadLevel 0 cs levels ≡ sound = ap (firstBadLevel 0 cs) (sym (append-nil levels)) ∙ resolved-accepted base cs [] low in
     let shown = demand3 base cs levels 0 (length cs) (omega arith) (omega arith) (omega arith) in
-    let near : (i : ℕ) → i < length order → getD order i 0 < longestParagraph = λ i g. let b : getD order i 0 < length cs = shown .only i g .before in omega arith in
+    let near : (i : ℕ) → i < length order → getD order i 0 < 10000 = λ i g. let b : getD order i 0 < length cs = shown .only i g .before in omega arith in
     let count : length order ≤ length cs = omega (arith, length-lineOrder base cs levels 0 (length cs) (omega arith)) in
     let rows = length-append (baseRow base ++ levelsRow levels) (orderRow order) in
     let first = length-append (baseRow base) (levelsRow levels) in

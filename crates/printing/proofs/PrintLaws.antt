@@ -13,7 +13,7 @@ use Rattle.words.specs.Words.{requestOf, classesOf}
 use Rattle.words.specs.Read.{ClassesRead}
 use Rattle.writing.specs.Text.{Puts}
 use Rattle.writing.proofs.TextLaws.{puts-whole}
-use Rattle.printing.specs.Printing.{paragraphText, lineText, mostOutput, printed, Prints}
+use Rattle.printing.specs.Printing.{mostClasses, paragraphText, lineText, mostOutput, printed, Prints}
 use Rattle.printing.proofs.TextLaws.{text-of-front, front-within, front-is}
 use Rattle.printing.proofs.LengthLaws.{line-short}
 
@@ -22,11 +22,11 @@ pub read-within : {line before after : List ℕ} {count : ℕ} → ClassesRead l
 read-within {line} {before} read = front-within (take (length before) (classesOf line)) before (read .count) (read .classes)
 
 -- ---- a line's text is that of the classes that were read of it, one more than the longest paragraph has
-pub line-told : {line before after : List ℕ} {request count : ℕ} → length before ≡ 4097 → request ≡ requestOf line → ClassesRead line before count after → paragraphText request (take count after) ≡ lineText line
+pub line-told : {line before after : List ℕ} {request count : ℕ} → length before ≡ mostClasses → request ≡ requestOf line → ClassesRead line before count after → paragraphText request (take count after) ≡ lineText line
 unfolding lineText
 line-told {line} {before} {after} {request} {count} long asked read =
     let cs = classesOf line in
-    let front : take count after ≡ take 4097 cs = front-is (take (length before) cs) before (read .count) (read .classes) ∙ ap (λ (n : ℕ). take n cs) long in
+    let front : take count after ≡ take mostClasses cs = front-is (take (length before) cs) before (read .count) (read .classes) ∙ ap (λ (n : ℕ). take n cs) long in
     (λ j. paragraphText (asked j) (front j)) ∙ text-of-front (requestOf line) cs
 
 -- ---- what a line prints into a buffer

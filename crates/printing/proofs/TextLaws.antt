@@ -13,7 +13,7 @@ use Rattle.rules.specs.Paragraph.{baseOf}
 use Rattle.rules.specs.Resolve.{resolvedLevels}
 use Rattle.laws.specs.Parts.{part, over}
 use Rattle.rules.specs.Line.{lineLevels, lineOrder}
-use Rattle.rules.specs.Refusals.{Check, sound, refuse, _andThen_, checkSome, checkLength, checkClasses, checkRequest, checkLevelRoom, checkLine, checkOrderRoom, checksOfLevels, checksOfOrder, checksOfLine}
+use Rattle.rules.specs.Refusals.{Check, sound, refuse, _andThen_, checkSome, checkLength, checkClasses, checkRequest, checkLevelRoom, checkLine, checkOrderRoom, checksOfLevels, checksOfOrder, checksOfLine, longestParagraph}
 use Rattle.rules.specs.Jobs.{Answer, accepted, refused, answered, levelsAnswer, resolveBuffer, lineAnswer, lineBuffer}
 use Rattle.laws.proofs.Lists.{le-or-lt}
 use Rattle.rules.proofs.SoundLaws.{classes-length, classes-some, levels-sound}
@@ -22,25 +22,25 @@ use Rattle.melvorash.specs.Answers.{Leaves, OrdersLine}
 use Rattle.rules.proofs.JobLaws.{accepted-value, never-both, accepted-sound}
 use Rattle.melvorash.proofs.LevelTheorems.{order-takes-resolved}
 use Rattle.writing.specs.Text.{refusedRow}
-use Rattle.printing.specs.Printing.{paragraphRows, paragraphText}
+use Rattle.printing.specs.Printing.{mostClasses, paragraphRows, paragraphText}
 
 -- ---- one class beyond the longest paragraph is enough to refuse it
-too-long : (cs : List ℕ) → 4096 < length cs → checkClasses cs ≡ refuse 3 0
+too-long : (cs : List ℕ) → longestParagraph < length cs → checkClasses cs ≡ refuse 3 0
 unfolding checkClasses checkSome checkLength
 too-long [] h = absurd (omega arith)
-too-long (c ∷ cs) h = rw (lt-ltb 4096 (length (c ∷ cs)) h)
+too-long (c ∷ cs) h = rw (lt-ltb longestParagraph (length (c ∷ cs)) h)
 
-told-too-long : (request : ℕ) (cs : List ℕ) → 4096 < length cs → paragraphText request cs ≡ refusedRow 3 0
+told-too-long : (request : ℕ) (cs : List ℕ) → longestParagraph < length cs → paragraphText request cs ≡ refusedRow 3 0
 unfolding paragraphText
 told-too-long request cs h = rw (too-long cs h)
 
-pub text-of-front : (request : ℕ) (cs : List ℕ) → paragraphText request (take 4097 cs) ≡ paragraphText request cs
-text-of-front request cs = go (le-or-lt (length cs) 4097)
+pub text-of-front : (request : ℕ) (cs : List ℕ) → paragraphText request (take mostClasses cs) ≡ paragraphText request cs
+text-of-front request cs = go (le-or-lt (length cs) mostClasses)
   where
-    go : (length cs ≤ 4097) ⊎ (4097 < length cs) → paragraphText request (take 4097 cs) ≡ paragraphText request cs
-    go (inl h) = ap (paragraphText request) (take-all 4097 cs h)
+    go : (length cs ≤ mostClasses) ⊎ (mostClasses < length cs) → paragraphText request (take mostClasses cs) ≡ paragraphText request cs
+    go (inl h) = ap (paragraphText request) (take-all mostClasses cs h)
     go (inr h) =
-        told-too-long request (take 4097 cs) (omega (arith, length-take 4097 cs))
+        told-too-long request (take mostClasses cs) (omega (arith, length-take mostClasses cs))
         ∙ sym (told-too-long request cs (omega arith))
 
 -- ---- with room for the longest paragraph there is no refusal for want of room
@@ -48,16 +48,16 @@ then-sound : (check : Check) → (check andThen sound) ≡ check
 then-sound sound = refl
 then-sound (refuse number place) = refl
 
-enough-room : (check : Check) (cs : List ℕ) (request room : ℕ) → checkClasses cs ≡ check → 4096 ≤ room → checksOfLevels cs request room ≡ (check andThen checkRequest request)
+enough-room : (check : Check) (cs : List ℕ) (request room : ℕ) → checkClasses cs ≡ check → longestParagraph ≤ room → checksOfLevels cs request room ≡ (check andThen checkRequest request)
 unfolding checksOfLevels checkLevelRoom
 enough-room sound cs request room e h =
     rw (e, le-ltb room (length cs) (omega (arith, classes-length cs e))) (then-sound (checkRequest request))
 enough-room (refuse number place) cs request room e h = rw e
 
-pub checks-told : (cs : List ℕ) (request room : ℕ) → 4096 ≤ room → checksOfLevels cs request room ≡ (checkClasses cs andThen checkRequest request)
+pub checks-told : (cs : List ℕ) (request room : ℕ) → longestParagraph ≤ room → checksOfLevels cs request room ≡ (checkClasses cs andThen checkRequest request)
 checks-told cs request room h = enough-room (checkClasses cs) cs request room refl h
 
-module _ (cs : List ℕ) (request room : ℕ) (h : 4096 ≤ room) where
+module _ (cs : List ℕ) (request room : ℕ) (h : longestParagraph ≤ room) where
   pub text-refused : (number place : ℕ) → checksOfLevels cs request room ≡ refuse number place → paragraphText request cs ≡ refusedRow number place
   unfolding paragraphText
   text-refused number place e = rw (sym (checks-told cs request room h) ∙ e)
@@ -67,7 +67,7 @@ module _ (cs : List ℕ) (request room : ℕ) (h : 4096 ≤ room) where
   text-sound base b e = rw (sym (checks-told cs request room h) ∙ e, b)
 
 -- ---- the whole paragraph is a line that Order takes
-pub line-taken : (cs levels : List ℕ) (base room : ℕ) → checkClasses cs ≡ sound → checksOfOrder cs levels base ≡ sound → 4096 ≤ room → checksOfLine cs levels base 0 (length cs) room ≡ sound
+pub line-taken : (cs levels : List ℕ) (base room : ℕ) → checkClasses cs ≡ sound → checksOfOrder cs levels base ≡ sound → longestParagraph ≤ room → checksOfLine cs levels base 0 (length cs) room ≡ sound
 unfolding checksOfLine checkLine checkOrderRoom
 line-taken cs levels base room c o h =
     let few = classes-length cs c in
@@ -91,7 +91,7 @@ refused-check : (check : Check) (value number place : ℕ) → answered check va
 refused-check sound value number place e = absurd (never-both e)
 refused-check (refuse m p) value number place e = cc
 
-module _ (cs : List ℕ) (request : ℕ) (levels : List ℕ) (answer : Answer ℕ) (after : List ℕ) (room : 4096 ≤ length levels) (l : Leaves (levelsAnswer cs request levels) (resolveBuffer cs request levels) answer after) where
+module _ (cs : List ℕ) (request : ℕ) (levels : List ℕ) (answer : Answer ℕ) (after : List ℕ) (room : longestParagraph ≤ length levels) (l : Leaves (levelsAnswer cs request levels) (resolveBuffer cs request levels) answer after) where
   pub resolve-refused : (number place : ℕ) → answer ≡ refused number place → refusedRow number place ≡ paragraphText request cs
   unfolding levelsAnswer
   resolve-refused number place e =
@@ -107,7 +107,7 @@ module _ (cs : List ℕ) (request : ℕ) (levels : List ℕ) (answer : Answer �
     written = l .buffer ∙ rw (checked .0, checked .1)
 
     -- Order takes the whole paragraph as a line
-    pub resolve-taken : (places : ℕ) → 4096 ≤ places → checksOfLine cs after base 0 (length cs) places ≡ sound
+    pub resolve-taken : (places : ℕ) → longestParagraph ≤ places → checksOfLine cs after base 0 (length cs) places ≡ sound
     resolve-taken places h =
         line-taken cs after base places (levels-sound cs request (length levels) (checked .0) .classes) (order-takes-resolved cs request levels answer after base l a) h
 

@@ -1,5 +1,5 @@
 -- The printing program: what it writes for a line, and for its whole input.
-use Prim.Native.Nat.{ℕ}
+use Prim.Native.Nat.{ℕ, _+_, _*_}
 use mathlib.Core.Path.{_≡_}
 use mathlib.Core.List.{List, [], _∷_, _++_}
 use lib.Dec.{ltb}
@@ -8,7 +8,7 @@ use Rattle.laws.specs.Choice.{if_then_else_}
 use Rattle.rules.specs.Paragraph.{baseOf}
 use Rattle.rules.specs.Resolve.{resolvedLevels}
 use Rattle.rules.specs.Line.{lineOrder}
-use Rattle.rules.specs.Refusals.{Check, byCheck, _andThen_, checkClasses, checkRequest}
+use Rattle.rules.specs.Refusals.{Check, byCheck, _andThen_, checkClasses, checkRequest, longestParagraph}
 use Rattle.laws.specs.Parts.{over}
 use Rattle.words.specs.Words.{linesOf, requestOf, classesOf}
 use Rattle.writing.specs.Text.{baseRow, levelsRow, orderRow, refusedRow}
@@ -28,6 +28,10 @@ paragraphText request cs =
     let levels = resolvedLevels base cs in
     toldRows (checkClasses cs andThen checkRequest request) (paragraphRows base levels (lineOrder base cs levels 0 (length cs)))
 
+-- as many classes of a line are read; one more than the longest paragraph has is enough to refuse a longer one
+abbrev pub mostClasses : ℕ
+mostClasses = longestParagraph + 1
+
 -- the whole output for one line of input
 unfoldable pub lineText : List ℕ → List ℕ
 lineText line = paragraphText (requestOf line) (classesOf line)
@@ -43,9 +47,10 @@ textOfAll (line ∷ lines) = lineText line ++ textOfAll lines
 unfoldable pub outputOf : List ℕ → List ℕ
 outputOf input = textOfAll (linesOf (take mostInput input))
 
--- a line's output has fewer bytes than this, and a shorter buffer is left alone
+-- a line's output has fewer bytes than this, and a shorter buffer is left alone. A level has at most two digits and a
+-- position four, each with a space: eight bytes of nine
 abbrev pub mostOutput : ℕ
-mostOutput = 36864
+mostOutput = 9 * longestParagraph
 
 unfoldable pub printed : List ℕ → ℕ → List ℕ
 printed line room = if ltb room mostOutput then [] else lineText line

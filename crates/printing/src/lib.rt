@@ -4,15 +4,18 @@ ghost use mathlib.Core.Path.{_≡_};
 ghost use lib.ListN.{length, take};
 ghost use Rattle.io.specs.Counts.{Counts};
 ghost use Rattle.rules.specs.Line.{lineOrder};
-ghost use Rattle.rules.specs.Refusals.{sound, checksOfLine};
+ghost use Rattle.rules.specs.Refusals.{sound, checksOfLine, longestParagraph};
 ghost use Rattle.writing.specs.Text.{refusedRow, Puts};
-ghost use Rattle.printing.specs.Printing.{paragraphRows, paragraphText, lineText, Prints};
+ghost use Rattle.printing.specs.Printing.{mostClasses, paragraphRows, paragraphText, lineText, Prints};
 use melvorash::LevelsAnswer;
 use melvorash::OrderAnswer;
 use refusals::Refusal;
 
 // More bytes than any line's output has.
-pub const MOST_OUTPUT: usize = 36864;
+pub const MOST_OUTPUT: usize = 9 * classes::LONGEST;
+
+// One class more than the longest paragraph has is enough to refuse a longer one.
+const MOST_CLASSES: usize = classes::LONGEST + 1;
 
 // Answers how many bytes of output there are. A buffer that might not hold them is left alone, and the
 // answer is 0, so that no output is ever cut short.
@@ -23,10 +26,9 @@ pub fn print_line(line: &[u8], out: &mut [u8]) -> usize
     if out.len() < MOST_OUTPUT {
         return 0;
     }
-    // one class more than the longest paragraph has is enough to refuse a longer one
-    let mut classes = [0u8; 4097];
-    let mut levels = [0u8; 4096];
-    let mut order = [0u16; 4096];
+    let mut classes = [0u8; MOST_CLASSES];
+    let mut levels = [0u8; classes::LONGEST];
+    let mut order = [0u16; classes::LONGEST];
     put_line(line, &mut classes, &mut levels, &mut order, out)
 }
 
@@ -38,9 +40,9 @@ fn put_line(
     order: &mut [u16],
     out: &mut [u8],
 ) -> usize
-    requires { ⌜ length (now classes) ≡ 4097 ⌝ }
-    requires { ⌜ 4096 ≤ length (now levels) ⌝ }
-    requires { ⌜ 4096 ≤ length (now order) ⌝ }
+    requires { ⌜ length (now classes) ≡ mostClasses ⌝ }
+    requires { ⌜ longestParagraph ≤ length (now levels) ⌝ }
+    requires { ⌜ longestParagraph ≤ length (now order) ⌝ }
     ensures { λ r. ⌜ Puts (lineText (now (line .entry))) (now (out .entry)) 0 (now (out .exit)) r ⌝ }
 {
     let count = words::read_classes(line, classes);
@@ -55,8 +57,8 @@ fn put_paragraph(
     order: &mut [u16],
     out: &mut [u8],
 ) -> usize
-    requires { ⌜ 4096 ≤ length (now levels) ⌝ }
-    requires { ⌜ 4096 ≤ length (now order) ⌝ }
+    requires { ⌜ longestParagraph ≤ length (now levels) ⌝ }
+    requires { ⌜ longestParagraph ≤ length (now order) ⌝ }
     ensures { λ r. ⌜ Puts (paragraphText request (now (classes .entry))) (now (out .entry)) 0 (now (out .exit)) r ⌝ }
 {
     let answer = melvorash::resolve_levels(classes, request, levels);

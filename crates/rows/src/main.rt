@@ -5,8 +5,9 @@ mod lent;
 mod read;
 mod run;
 mod say;
+mod tell;
 
-// What a row needs at most: one more than the longest paragraph has.
+// What a row lends at most: one more than the longest paragraph has.
 const MOST: usize = 4097;
 
 fn main() {
@@ -34,25 +35,34 @@ fn line(line: &[u8]) {
     say::text(b"\n");
 }
 
+// A row's jobs are lent what it says: the classes, the levels, the places of an order, and the line ends.
 fn row(row: &[u8]) {
-    let mut classes = [0u8; MOST];
-    let mut levels = [0u8; MOST];
-    let mut order = [lent::PLACE; MOST];
-    lend(row, &mut classes, &mut levels, &mut order);
+    let mut room = [0u8; MOST];
+    let count = read::bytes(read::field(row, 2), &mut room);
+    lend_levels(row, &room[..count]);
 }
 
-// The jobs of a row are lent what it says.
-fn lend(row: &[u8], classes: &mut [u8], levels: &mut [u8], order: &mut [u16]) {
-    let positions = read::bytes(read::field(row, 2), classes);
-    let given = read::bytes(read::field(row, 3), levels);
+fn lend_levels(row: &[u8], classes: &[u8]) {
+    let mut room = [0u8; MOST];
+    let levels: &mut [u8] = &mut room;
+    let count = read::bytes(read::field(row, 3), levels);
+    lend_order(row, classes, &mut levels[..count]);
+}
+
+fn lend_order(row: &[u8], classes: &[u8], levels: &mut [u8]) {
+    let mut room = [lent::PLACE; MOST];
+    let order: &mut [u16] = &mut room;
     let places = read::number(read::field(row, 4)) as usize;
-    if places > order.len() {
+    if places > MOST {
         return;
     }
-    run::jobs(
-        row,
-        &classes[..positions],
-        &mut levels[..given],
-        &mut order[..places],
-    );
+    lend_ends(row, classes, levels, &mut order[..places]);
+}
+
+fn lend_ends(row: &[u8], classes: &[u8], levels: &mut [u8], order: &mut [u16]) {
+    let mut room = [0u16; 8];
+    let count = read::numbers(read::field(row, 6), &mut room);
+    let request = (read::number(read::field(row, 5)) % 256) as u8;
+    let jobs = read::field(row, 1);
+    run::jobs(jobs, classes, levels, order, request, &room[..count]);
 }

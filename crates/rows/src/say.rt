@@ -1,5 +1,4 @@
 // Writing to standard output.
-use refusals::Refusal;
 
 pub(crate) fn text(bytes: &[u8]) {
     io::write_all(libc::STDOUT_FILENO, bytes);
@@ -9,6 +8,11 @@ pub(crate) fn text(bytes: &[u8]) {
 pub(crate) fn number(n: usize) {
     text(b" ");
     io::print_decimal(libc::STDOUT_FILENO, n as u64);
+}
+
+pub(crate) fn named(name: &[u8], n: usize) {
+    text(name);
+    number(n);
 }
 
 // A byte, or a dash for the level of a removed position.
@@ -54,10 +58,4 @@ pub(crate) fn order(order: &[u16], from: usize, to: usize) {
         place_at(order, i);
         i += 1;
     }
-}
-
-pub(crate) fn refused(refusal: Refusal) {
-    text(b" refused");
-    number(refusal.number as usize);
-    number(refusal.place);
 }

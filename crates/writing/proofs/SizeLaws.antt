@@ -79,9 +79,9 @@ pub levels-row-size : (cs ls : List ℕ) → length ls ≡ length cs → firstBa
 unfolding levelsRow
 levels-row-size cs ls e s = omega (arith, row-size levelsName levelText 2 ls (levels-size 0 cs ls e s))
 
-pub order-row-size : (ps : List ℕ) → ((i : ℕ) → i < length ps → getD ps i 0 < 4096) → length (orderRow ps) ≤ 6 + 5 * length ps
+pub order-row-size : (ps : List ℕ) → ((i : ℕ) → i < length ps → getD ps i 0 < 10000) → length (orderRow ps) ≤ 6 + 5 * length ps
 unfolding orderRow
-order-row-size ps low = omega (arith, row-size orderName numberText 4 ps (λ i h. let p : getD ps i 0 < 4096 = low i h in number-size 3 (getD ps i 0) (omega arith)))
+order-row-size ps low = omega (arith, row-size orderName numberText 4 ps (λ i h. let p : getD ps i 0 < 10000 = low i h in number-size 3 (getD ps i 0) (omega arith)))
 
 pub refused-row-size : (number place : ℕ) → number ≤ 10 → place < 10000 → length (refusedRow number place) ≤ 20
 unfolding refusedRow

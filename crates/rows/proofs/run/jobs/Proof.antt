@@ -1,11 +1,11 @@
--- `rows::run::each` meets its contract: both buffers keep their lengths.
+-- `rows::run::jobs` meets its contract: both buffers keep their lengths.
 -- Assumes nothing.
 use Prim.Native.Nat.{_-_}
 use mathlib.Core.Path.{_≡_}
 use lib.ListN.{length}
 use borrow.Author.Needs.{needs}
-use Rattle.rows.proofs.run.each.Statement.{statement}
-use Rattle.rows.proofs.run.each.Tie as tie
+use Rattle.rows.proofs.run.jobs.Statement.{statement}
+use Rattle.rows.proofs.run.jobs.Tie as tie
 
 abbrev Inv-loop : tie.InvT-loop
 Inv-loop jobs classes levels₀ order₀ request ends base₀ i₀ levels order base i = (length levels ≡ length levels₀) × (length order ≡ length order₀)
@@ -16,17 +16,17 @@ abbrev μ-loop : tie.MeasureT-loop
 loop-holds : tie.Need-loop-holds Inv-loop μ-loop
 loop-holds c = search needs
 
-shared-slice-read-levels-job : tie.Need-shared-slice-read-levels-job Inv-loop μ-loop
-shared-slice-read-levels-job c = search needs
+shared-slice-read-called : tie.Need-shared-slice-read-called Inv-loop μ-loop
+shared-slice-read-called c = search needs
 
-levels-job-requires : tie.Need-levels-job-requires Inv-loop μ-loop
-levels-job-requires c κs = search needs
+called-requires : tie.Need-called-requires Inv-loop μ-loop
+called-requires c κs = search needs
 
-shared-slice-read-order-job : tie.Need-shared-slice-read-order-job Inv-loop μ-loop
-shared-slice-read-order-job c = search needs
+shared-slice-read-answer : tie.Need-shared-slice-read-answer Inv-loop μ-loop
+shared-slice-read-answer c = search needs
 
-order-job-requires : tie.Need-order-job-requires Inv-loop μ-loop
-order-job-requires c κs = search needs
+answer-requires : tie.Need-answer-requires Inv-loop μ-loop
+answer-requires c κs = search needs
 
 add-i : tie.Need-add-i Inv-loop μ-loop
 add-i c = search needs
@@ -46,17 +46,17 @@ same-length-2 c = search needs
 returns : tie.Need-returns Inv-loop μ-loop
 returns c = search needs
 
-pub each-spec : {M : Type 1} → statement M
-each-spec =
+pub jobs-spec : {M : Type 1} → statement M
+jobs-spec =
     tie.close
     (tie.spec
     Inv-loop
     μ-loop
     loop-holds
-    shared-slice-read-levels-job
-    levels-job-requires
-    shared-slice-read-order-job
-    order-job-requires
+    shared-slice-read-called
+    called-requires
+    shared-slice-read-answer
+    answer-requires
     add-i
     loop-less
     loop-again
