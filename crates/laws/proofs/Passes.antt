@@ -1,4 +1,4 @@
--- The passes over the types of a run, each proved once over its step: a sweep goes from type to type and carries
+-- The passes over a list of numbers, each proved once over its step: a sweep goes from one to the next and carries
 -- one value, a filling pass goes from stretch to stretch. Each has what holds at the loop's head as a record, and
 -- laws over plain lists: begun, one step further, done.
 -- Assumes nothing.
@@ -28,9 +28,9 @@ getD-within [] i d e h = absurd (not-suc-le-zero h)
 getD-within (x ∷ xs) zero d e h = refl
 getD-within (x ∷ xs) (suc i) d e h = getD-within xs i d e (le-of-suc-le-suc h)
 
--- ---- Sweeps: W1 to W4, W6 and W7
+-- ---- Sweeps
 
--- a type is written anew by the value carried, itself and the next one, `end` where there is none
+-- a number is written anew by the value carried, itself and the next one, `end` where there is none
 unfoldable pub sweep : (ℕ → ℕ → ℕ → ℕ) → (ℕ → ℕ → ℕ) → ℕ → ℕ → List ℕ → List ℕ
 sweep write carry end s [] = []
 sweep write carry end s (t ∷ ts) = write s t (headOr end ts) ∷ sweep write carry end (carry s t) ts
@@ -54,7 +54,7 @@ unfolding sweep
 map-sweep f [] = refl
 map-sweep f (t ∷ ts) = ap (λ (r : List ℕ). f t ∷ r) (map-sweep f ts)
 
--- one type at every place is a sweep that writes it
+-- one number at every place is a sweep that writes it
 pub replicate-sweep : (v : ℕ) (ts : List ℕ) → replicate (length ts) v ≡ sweep (λ s t n. v) (λ s t. s) 0 0 ts
 unfolding sweep
 replicate-sweep v [] = refl
@@ -97,7 +97,7 @@ module _ {write : ℕ → ℕ → ℕ → ℕ} {carry : ℕ → ℕ → ℕ} {en
       sym (append-nil out)
       ∙ (rw (take-all i out full, drop-of-length-le xs past, sweep-nil write carry end s) at (now .joined))
 
--- a list filled with one type: there is none, or the first place is written already
+-- a list filled with one number: there is none, or the first place is written already
 pub none-to-fill : (t : ℕ) (xs : List ℕ) → length xs ≡ 0 → xs ≡ replicate (length xs) t
 none-to-fill t [] none = refl
 none-to-fill t (x ∷ xs) none = absurd (omega arith)
@@ -107,7 +107,7 @@ unfolding sweep
 first-filled t [] some = absurd (some refl)
 first-filled t (x ∷ xs) some = record { within = omega arith; read = refl; written = refl; joined = refl }
 
--- ---- Stretches: W5, N1 with N2
+-- ---- Stretches
 
 span-here : (test : ℕ → Bool) (t : ℕ) (ts : List ℕ) → test t ≡ true → span test (t ∷ ts) ≡ suc (span test ts)
 unfolding span
@@ -216,7 +216,7 @@ module _ (test : ℕ → Bool) (change : ℕ → ℕ → ℕ → ℕ) (end : ℕ
       ∙ ap (λ (n : ℕ). replicate n v ++ stretches test change before end (drop n (t ∷ ts))) (sym (span-here test t ts holds)))
       (λ fails. rw (span-none test t ts fails))
 
--- what is left at i, where a stretch ends at e: what its change gives every type of it, so many times, and what is left at e
+-- what is left at i, where a stretch ends at e: what its change gives every number of it, so many times, and what is left at e
 stretch-parted : (test : ℕ → Bool) (change : ℕ → ℕ → ℕ → ℕ) (end : ℕ) (xs : List ℕ) (before i e v : ℕ) → i ≤ e → e ≡ i + span test (drop i xs) → ((t : ℕ) → test t ≡ true → change before (getD xs e end) t ≡ v) → stretches test change before end (drop i xs) ≡ replicate (e - i) v ++ stretches test change before end (drop e xs)
 stretch-parted test change end xs before i e v h ends same =
     let size : span test (drop i xs) ≡ e - i = omega arith in
@@ -225,7 +225,7 @@ stretch-parted test change end xs before i e v h ends same =
     ∙ ap (λ (n : ℕ). replicate n v ++ stretches test change before end (drop n (drop i xs))) size
     ∙ ap (λ (r : List ℕ). replicate (e - i) v ++ stretches test change before end r) (drop-drop (e - i) i xs ∙ ap (λ (n : ℕ). drop n xs) there)
 
--- a second change of every type, one that keeps what stands outside the stretches, joins the first
+-- a second change of every number, one that keeps what stands outside the stretches, joins the first
 pub map-stretches : (f : ℕ → ℕ) (test : ℕ → Bool) (change : ℕ → ℕ → ℕ → ℕ) (end : ℕ) → ((t : ℕ) → test t ≡ false → f t ≡ t) → (before : ℕ) (ts : List ℕ) → map f (stretches test change before end ts) ≡ stretches test (λ b n t. f (change b n t)) before end ts
 map-stretches f test change end keeps before [] =
     ap (map f) (stretches-nil test change end before) ∙ sym (stretches-nil test (λ b n t. f (change b n t)) end before)
@@ -241,7 +241,7 @@ map-stretches f test change end keeps before (t ∷ ts) =
     ∙ ap (λ (r : List ℕ). t ∷ r) (map-stretches f test change end keeps t ts)
     ∙ sym (stretches-over test (λ b n u. f (change b n u)) end before t ts fails))
 
--- ---- Stretches that are read from one list and written, changed once more, into another: N1 with N2, and the levels
+-- ---- Stretches that are read from one list and written, changed once more, into another
 
 map-fill : (f : ℕ → ℕ) (n v : ℕ) (rest : List ℕ) → map f (replicate n v ++ rest) ≡ replicate n (f v) ++ map f rest
 map-fill f zero v rest = refl

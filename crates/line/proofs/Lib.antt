@@ -1,4 +1,3 @@
 -- Laws that the proofs of this crate cite.
-pub mod GatherLaws
 pub mod LineLaws
 pub mod Determined

@@ -17,9 +17,11 @@ use Rattle.laws.specs.Parts.{over, part}
 use Rattle.rules.specs.Line.{Item, L1, L2, items, pass, passes, highest, lowestOdd, lineLevels, lineOrder, allOrders, positionsOf, levelsOf}
 use Rattle.rules.specs.Refusals.{endsRiseTo}
 use Rattle.laws.proofs.Lists.{drop-next}
-use Rattle.line.specs.LaidOut.{LaidOut, lineItems}
+use Rattle.kept.specs.LaidOut.{LaidOut}
+use Rattle.line.specs.Items.{lineItems}
 use Rattle.line.specs.Ordered.{Ordered}
-use Rattle.reversal.specs.Passes.{atLevels, passesBy}
+use Rattle.level_range.specs.Levels.{atLevels}
+use Rattle.reversal.specs.Passes.{passesBy}
 use Rattle.laws.proofs.Filling.{Filled, filled-begun, filled-part, filled-ended}
 use Rattle.reversal.proofs.ItemLaws.{passes-positions, highest-levels, lowestOdd-levels, L2-of-bytes}
 use Rattle.rules.proofs.LineLaws.{length-L1}

@@ -1,3 +1,3 @@
 -- What the contracts of this crate say of results and lent memory.
-pub mod LaidOut
+pub mod Items
 pub mod Ordered

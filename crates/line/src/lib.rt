@@ -3,67 +3,11 @@ ghost use mathlib.Core.Path.{_≡_};
 ghost use mathlib.Core.Bool.{true};
 ghost use Prim.Native.Nat.{_+_, _-_, _≤_, _<_};
 ghost use lib.ListN.{length, getD};
-ghost use Rattle.laws.specs.Choice.{upFrom};
-ghost use Rattle.laws.specs.Parts.{over};
-ghost use Rattle.rules.specs.Line.{L2, items, positionsOf, lineOrder, allOrders};
+ghost use Rattle.rules.specs.Line.{L2, positionsOf, lineOrder, allOrders};
 ghost use Rattle.rules.specs.Refusals.{longestParagraph, endsRiseTo};
-ghost use Rattle.line.specs.LaidOut.{LaidOut, lineItems};
+ghost use Rattle.line.specs.Items.{lineItems};
 ghost use Rattle.line.specs.Ordered.{Ordered};
-use places::Place;
 use places::Position;
-
-// One position at a time: a removed one is passed over.
-fn gather_kept(classes: &[u8], from: Position, levels: &mut [u8], order: &mut [u16]) -> usize
-    requires { ⌜ length (now classes) ≤ length (now levels) ⌝ }
-    requires { ⌜ length (now classes) ≤ length (now order) ⌝ }
-    requires { ⌜ from .0 + length (now classes) ≤ 65536 ⌝ }
-    ensures { λ r. ⌜ LaidOut (items (from .0) (now (classes .entry)) (now (levels .entry))) (now (levels .entry)) (now (order .entry)) r (now (levels .exit)) (now (order .exit)) ⌝ }
-{
-    let start = from.0;
-    let mut i = 0;
-    let mut k = 0;
-    while i < classes.len() {
-        if classes::is_removed(places::byte_at(classes, Position(i))) {
-            i += 1;
-        } else {
-            let level = places::byte_at(levels, Position(i));
-            places::pack(levels, Place(k), level);
-            places::put(order, Place(k), Position(start + i));
-            k += 1;
-            i += 1;
-        }
-    }
-    k
-}
-
-// So many positions in a row, to the first places. A straight loop, so that many places are written at once.
-fn number_all(from: Position, count: usize, order: &mut [u16])
-    requires { ⌜ count ≤ length (now order) ⌝ }
-    requires { ⌜ from .0 + count ≤ 65536 ⌝ }
-    ensures { λ r. ⌜ now (order .exit) ≡ over (upFrom (from .0) count) (now (order .entry)) ⌝ }
-{
-    let start = from.0;
-    let mut i = 0;
-    while i < count {
-        places::put(order, Place(i), Position(start + i));
-        i += 1;
-    }
-}
-
-// The kept positions of a line in memory order, to the first places, and their levels to the front. Where nothing is
-// removed the levels stand at the front already.
-fn gather(classes: &[u8], from: Position, levels: &mut [u8], order: &mut [u16]) -> usize
-    requires { ⌜ length (now classes) ≤ length (now levels) ⌝ }
-    requires { ⌜ length (now classes) ≤ length (now order) ⌝ }
-    requires { ⌜ from .0 + length (now classes) ≤ 65536 ⌝ }
-    ensures { λ r. ⌜ LaidOut (items (from .0) (now (classes .entry)) (now (levels .entry))) (now (levels .entry)) (now (order .entry)) r (now (levels .exit)) (now (order .exit)) ⌝ }
-{
-    if parts::any_removed(classes) {
-        return gather_kept(classes, from, levels, order);
-    }
-    number_all(from, classes.len(), order);
-    classes.len()
-}
 
 // The order of a line, given its own classes and levels, with a work buffer for the line's levels.
 fn order_with(
@@ -81,15 +25,15 @@ fn order_with(
     ensures { λ r. ⌜ Ordered (positionsOf (L2 (lineItems base from (now (classes .entry)) (now (levels .entry))))) (now (order .entry)) r (now (order .exit)) ⌝ }
 {
     reset::reset(classes, levels, base, work);
-    let count = gather(classes, Position(from), work, order);
-    let kept = &work[..count];
-    let top = reversal::highest_level(kept);
-    let lowest = reversal::lowest_odd_level(kept);
+    let count = kept::gather(classes, Position(from), work, order);
+    let packed = &work[..count];
+    let top = level_range::highest_level(packed);
+    let lowest = level_range::lowest_odd_level(packed);
     // Without an odd level memory order stands.
     if top < lowest {
         return count;
     }
-    reversal::reversal_pass(top, lowest, kept, order);
+    reversal::reversal_pass(top, lowest, packed, order);
     count
 }
 
@@ -112,8 +56,8 @@ pub fn order_line(
 {
     let line = &classes[from..to];
     let own = &levels[from..to];
-    if to - from <= 64 {
-        let mut short = [0u8; 64];
+    if to - from <= parts::SHORT {
+        let mut short = [0u8; parts::SHORT];
         return order_with(line, own, base, from, &mut short, order);
     }
     let mut long = [0u8; classes::LONGEST];

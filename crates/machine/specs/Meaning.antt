@@ -1,5 +1,5 @@
 -- The machine's struct as a state of the rules, and its verdicts as theirs.
-use Prim.Native.Nat.{ℕ, zero, suc}
+use Prim.Native.Nat.{ℕ, zero, suc, _-_}
 use mathlib.Core.List.{List, [], _∷_, _++_}
 use lib.Dec.{eqb}
 use lib.ListN.{getD, replicate}
@@ -12,7 +12,7 @@ use Rattle.machine.specs.declared.Verdict.the-variants.{OpensValid, Open
 
 -- the only two levels at which a code can be invalid: 61, and 60 where it asks for an even level
 abbrev pub nextToHighest : ℕ
-nextToHighest = 60
+nextToHighest = highestExplicit - 1
 
 -- how many invalid codes are unmatched at a level, where n60 are at 60 and n61 at 61: at no other can there be any
 unfoldable pub invalidAt : ℕ → ℕ → ℕ → ℕ

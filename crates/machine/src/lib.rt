@@ -9,10 +9,10 @@ ghost use Rattle.machine.specs.Meaning.{meaning, invalidHere, nextToHigh
 ghost use Rattle.machine.specs.Sound.{Sound, counts, Stands};
 
 // Where a code that asks for an even level is invalid too.
-const NEXT_TO_HIGHEST: u8 = 60;
+const NEXT_TO_HIGHEST: u8 = classes::HIGHEST_EXPLICIT - 1;
 
 // How many pairs can be remembered: their levels rise from 0 or 1.
-const MOST: usize = 61;
+const MOST: usize = classes::HIGHEST_EXPLICIT as usize;
 
 // What a class does in a state. A verdict that opens or closes validly names the level and override to take.
 pub enum Verdict {

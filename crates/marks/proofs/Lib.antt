@@ -4,7 +4,6 @@ pub mod StepLaws
 pub mod RankLaws
 pub mod TextLaws
 pub mod LimitLaws
-pub mod JoinLaws
 pub mod DrawLaws
 pub mod JobLaws
 pub mod Determined

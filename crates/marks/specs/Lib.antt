@@ -1,3 +1,2 @@
 pub mod Keeps
-pub mod Ranks
 pub mod Answers

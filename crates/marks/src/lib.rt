@@ -1,7 +1,6 @@
 // The drawing order of marks: canonical ordering, then the steps of Arabic mark rendering. The job
 // checks its input and refuses it with a number, and then has altered nothing.
 mod draw;
-mod stretch;
 
 use draw::draw;
 use refusals::Checked;

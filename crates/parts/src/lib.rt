@@ -7,6 +7,9 @@ ghost use Rattle.rules.specs.Classes.{isRemoved};
 ghost use Rattle.laws.specs.Parts.{over};
 ghost use Rattle.laws.specs.Any.{anyOf};
 
+// So many positions are worked on in a small buffer: a label does not pay for the longest paragraph.
+pub const SHORT: usize = 64;
+
 // The element at `i`; past the end, what stands there: for the types of a run its end type, for levels the base.
 pub fn element_or(types: &[u8], i: usize, end: u8) -> u8
     ensures { λ r. ⌜ r ≡ getD (now (types .entry)) i end ⌝ }

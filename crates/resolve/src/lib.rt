@@ -36,8 +36,8 @@ pub fn resolve_levels(classes: &[u8], base: u8, levels: &mut [u8])
     requires { ⌜ (base ≤ 1) × (length (now classes) ≤ length (now levels)) × (length (now classes) ≤ longestParagraph) ⌝ }
     ensures { λ _. ⌜ now (levels .exit) ≡ over (resolvedLevels base (now (classes .entry))) (now (levels .entry)) ⌝ }
 {
-    if classes.len() <= 64 {
-        let mut few = [0u8; 64];
+    if classes.len() <= parts::SHORT {
+        let mut few = [0u8; parts::SHORT];
         resolve_in(classes, base, levels, &mut few);
         return;
     }

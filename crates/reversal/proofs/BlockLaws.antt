@@ -11,7 +11,8 @@ use borrow.Author.Tests.{le-leb, lt-ltb}
 use borrow.Rule.Slice.PartMut.{midOf, mid-len, post-is}
 use Rattle.rules.specs.Line.{highest}
 use Rattle.laws.specs.Stretches.{span}
-use Rattle.reversal.specs.Passes.{atLevels, lowest, below, Skipped}
+use Rattle.level_range.specs.Levels.{atLevels, lowest}
+use Rattle.reversal.specs.Passes.{below, Skipped}
 
 -- each element of a part passes the test: so many come first, then those of whatever follows
 pub record Passes (test : ℕ → Bool) (part : List ℕ) : Type 0 where

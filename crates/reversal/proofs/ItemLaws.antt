@@ -13,8 +13,9 @@ use borrow.Author.Tests.{leb-true, le-leb, lt-leb, eqb-false}
 use Rattle.laws.specs.Choice.{if_then_else_, isOdd}
 use Rattle.rules.specs.Line.{Item, positionsOf, levelsOf, L2, pass, passes, highest, lowestOdd}
 use Rattle.laws.proofs.Lists.{le-or-lt}
-use Rattle.reversal.specs.Passes.{atLevels, passBy, passesBy}
-use Rattle.reversal.proofs.ScanLaws.{low-min}
+use Rattle.level_range.specs.Levels.{atLevels}
+use Rattle.reversal.specs.Passes.{passBy, passesBy}
+use Rattle.level_range.proofs.ScanLaws.{low-min}
 
 -- at which of the levels a pass would turn
 abbrev tests : ℕ → List ℕ → List Bool

@@ -1,22 +1,12 @@
 -- The passes of L2 as they are made: what stands in an order is moved, and the levels are read by place, as they were before any pass.
-use Prim.Native.Nat.{ℕ, zero, suc, _+_, _≤_, _<_, min}
+use Prim.Native.Nat.{ℕ, zero, suc, _+_, _≤_, _<_}
 use mathlib.Core.Path.{_≡_}
 use mathlib.Core.Bool.{Bool}
-use mathlib.Core.List.{List, [], _∷_, _++_, map}
+use mathlib.Core.List.{List, [], _∷_, _++_}
 use lib.Dec.{leb, ltb}
 use lib.ListN.{length, getD, drop}
 use Rattle.laws.specs.Choice.{if_then_else_}
-use Rattle.rules.specs.Line.{Item}
 use Rattle.laws.specs.Stretches.{span}
-
--- items at the given levels, whatever their positions
-abbrev pub atLevels : List ℕ → List Item
-atLevels ls = map (λ (l : ℕ). record { position = 0; level = l }) ls
-
--- the lowest of a level and of all levels of a list
-unfoldable pub lowest : ℕ → List ℕ → ℕ
-lowest none [] = none
-lowest none (l ∷ ls) = min l (lowest none ls)
 
 -- what a pass at that level leaves where it is
 abbrev pub below : ℕ → ℕ → Bool

@@ -8,7 +8,7 @@ mod say;
 mod tell;
 
 // What a row lends at most: one more than the longest paragraph has.
-const MOST: usize = 4097;
+const MOST: usize = classes::LONGEST + 1;
 
 fn main() {
     let mut input = io::large_buffer();

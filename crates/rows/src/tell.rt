@@ -97,7 +97,7 @@ fn placed(job: u8, count: usize, order: &[u16]) {
     if job == b'T' {
         say::named(b" ordered", count);
         say::text(b", the last place and the one after:");
-        return say::order(order, 4095, 4097);
+        return say::order(order, classes::LONGEST - 1, classes::LONGEST + 1);
     }
     if job == b'M' {
         say::order(order, 0, count);

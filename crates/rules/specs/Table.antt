@@ -35,8 +35,8 @@ removed = removedLevel
 
 -- a row of the page, and the base that its request gives: both jobs accept, Resolve with that base, Order with how many
 -- positions it ordered
-abbrev row : List ℕ → ℕ → ℕ → List ℕ → List ℕ → Row
-row classes request base levels order =
+abbrev pageRow : List ℕ → ℕ → ℕ → List ℕ → List ℕ → Row
+pageRow classes request base levels order =
     record {
       classes = classes;
       request = request;
@@ -48,17 +48,17 @@ row classes request base levels order =
 
 abbrev pub table : List Row
 table =
-    row (L ∷ []) byText 0 (0 ∷ []) (0 ∷ []) ∷
-    row (AL ∷ EN ∷ []) byText 1 (1 ∷ 2 ∷ []) (1 ∷ 0 ∷ []) ∷
-    row (L ∷ WS ∷ EN ∷ []) byText 0 (0 ∷ 0 ∷ 0 ∷ []) (0 ∷ 1 ∷ 2 ∷ []) ∷
-    row (EN ∷ CS ∷ EN ∷ []) 1 1 (2 ∷ 2 ∷ 2 ∷ []) (0 ∷ 1 ∷ 2 ∷ []) ∷
-    row (EN ∷ CS ∷ CS ∷ EN ∷ []) 1 1 (2 ∷ 1 ∷ 1 ∷ 2 ∷ []) (3 ∷ 2 ∷ 1 ∷ 0 ∷ []) ∷
-    row (AN ∷ ET ∷ EN ∷ []) 1 1 (2 ∷ 2 ∷ 2 ∷ []) (0 ∷ 1 ∷ 2 ∷ []) ∷
-    row (R ∷ WS ∷ L ∷ []) 0 0 (1 ∷ 0 ∷ 0 ∷ []) (0 ∷ 1 ∷ 2 ∷ []) ∷
-    row (R ∷ WS ∷ L ∷ []) 1 1 (1 ∷ 1 ∷ 2 ∷ []) (2 ∷ 1 ∷ 0 ∷ []) ∷
-    row (RLE ∷ L ∷ PDF ∷ R ∷ []) 0 0 (removed ∷ 2 ∷ removed ∷ 1 ∷ []) (3 ∷ 1 ∷ []) ∷
-    row (EN ∷ BN ∷ CS ∷ EN ∷ []) 1 1 (2 ∷ removed ∷ 2 ∷ 2 ∷ []) (0 ∷ 2 ∷ 3 ∷ []) ∷
-    row (R ∷ S ∷ R ∷ []) 0 0 (1 ∷ 1 ∷ 1 ∷ []) (0 ∷ 1 ∷ 2 ∷ []) ∷
+    pageRow (L ∷ []) byText 0 (0 ∷ []) (0 ∷ []) ∷
+    pageRow (AL ∷ EN ∷ []) byText 1 (1 ∷ 2 ∷ []) (1 ∷ 0 ∷ []) ∷
+    pageRow (L ∷ WS ∷ EN ∷ []) byText 0 (0 ∷ 0 ∷ 0 ∷ []) (0 ∷ 1 ∷ 2 ∷ []) ∷
+    pageRow (EN ∷ CS ∷ EN ∷ []) 1 1 (2 ∷ 2 ∷ 2 ∷ []) (0 ∷ 1 ∷ 2 ∷ []) ∷
+    pageRow (EN ∷ CS ∷ CS ∷ EN ∷ []) 1 1 (2 ∷ 1 ∷ 1 ∷ 2 ∷ []) (3 ∷ 2 ∷ 1 ∷ 0 ∷ []) ∷
+    pageRow (AN ∷ ET ∷ EN ∷ []) 1 1 (2 ∷ 2 ∷ 2 ∷ []) (0 ∷ 1 ∷ 2 ∷ []) ∷
+    pageRow (R ∷ WS ∷ L ∷ []) 0 0 (1 ∷ 0 ∷ 0 ∷ []) (0 ∷ 1 ∷ 2 ∷ []) ∷
+    pageRow (R ∷ WS ∷ L ∷ []) 1 1 (1 ∷ 1 ∷ 2 ∷ []) (2 ∷ 1 ∷ 0 ∷ []) ∷
+    pageRow (RLE ∷ L ∷ PDF ∷ R ∷ []) 0 0 (removed ∷ 2 ∷ removed ∷ 1 ∷ []) (3 ∷ 1 ∷ []) ∷
+    pageRow (EN ∷ BN ∷ CS ∷ EN ∷ []) 1 1 (2 ∷ removed ∷ 2 ∷ 2 ∷ []) (0 ∷ 2 ∷ 3 ∷ []) ∷
+    pageRow (R ∷ S ∷ R ∷ []) 0 0 (1 ∷ 1 ∷ 1 ∷ []) (0 ∷ 1 ∷ 2 ∷ []) ∷
     []
 
 -- the row of the same classes and request with what the jobs answer and leave, in buffers lent with any content

@@ -10,7 +10,7 @@ use lib.ListN.{length, getD, length-append}
 use borrow.Author.Tests.{ltb-true, ltb-false}
 use Rattle.rules.specs.Classes.{isRemoved}
 use Rattle.rules.specs.Explicit.{removedLevel}
-use Rattle.rules.specs.Refusals.{sound, refuse, isBadLevel, firstBadLevel}
+use Rattle.rules.specs.Refusals.{highestResolved, sound, refuse, isBadLevel, firstBadLevel}
 use Rattle.laws.proofs.Passes.{by-test}
 use Rattle.words.specs.Words.{space, lineFeed}
 use Rattle.writing.specs.Text.{digit, numberText, levelText, spaced, baseName, levelsName, orderName, refusedName, baseRow, levelsRow, orderRow, refusedRow}
@@ -34,8 +34,8 @@ level-size c l e =
     (λ d. rw d (omega arith))
     (λ d. by-test (isRemoved c)
     (λ r. let z : true ≡ false = rw (r, d) at e in let n : _≡_ {A = ℕ} 0 1 = cc in absurd (omega arith))
-    (λ r. let t : ltb 62 l ≡ false = rw r at e in
-    let h : l ≤ 62 = ltb-false 62 l t in
+    (λ r. let t : ltb highestResolved l ≡ false = rw r at e in
+    let h : l ≤ highestResolved = ltb-false highestResolved l t in
     rw d (number-size 1 l (omega arith))))
 
 none-bad : (at c l : ℕ) (cs ls : List ℕ) → firstBadLevel at (c ∷ cs) (l ∷ ls) ≡ sound → (isBadLevel c l ≡ false) × (firstBadLevel (suc at) cs ls ≡ sound)

@@ -28,11 +28,11 @@ count-kept c =
 kept-within : (c : tie.After-gather) → c .gather .result ≤ length (c .gather .last .1 .1 .0)
 kept-within c = let n = count-kept c in search needs
 
-slice-reshare-prefix-kept : tie.Need-slice-reshare-prefix-kept
-slice-reshare-prefix-kept c = kept-within (c .before .before .before .before)
+slice-reshare-prefix-packed : tie.Need-slice-reshare-prefix-packed
+slice-reshare-prefix-packed c = kept-within (c .before .before .before .before)
 
-slice-aggregate-kept : tie.Need-slice-aggregate-kept
-slice-aggregate-kept c = sym (length-take-le _ _ (kept-within (c .before .before .before .before .before)))
+slice-aggregate-packed : tie.Need-slice-aggregate-packed
+slice-aggregate-packed c = sym (length-take-le _ _ (kept-within (c .before .before .before .before .before)))
 
 highest-level-requires : tie.Need-highest-level-requires
 highest-level-requires c κs = search needs
@@ -87,8 +87,8 @@ order-with-spec =
     (tie.spec
     reset-requires
     gather-requires
-    slice-reshare-prefix-kept
-    slice-aggregate-kept
+    slice-reshare-prefix-packed
+    slice-aggregate-packed
     highest-level-requires
     lowest-odd-level-requires
     same-length

@@ -1,0 +1,2 @@
+-- What gathering leaves.
+pub mod LaidOut
