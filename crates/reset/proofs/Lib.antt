@@ -1,3 +1,3 @@
 -- Laws that the proofs of this crate cite.
 pub mod ResetLaws
-pub mod TailLaws
+pub mod StepLaws

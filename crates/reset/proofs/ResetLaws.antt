@@ -12,10 +12,9 @@ use Rattle.rules.specs.Classes.{isRemoved, isSeparator, isBlank}
 use Rattle.laws.specs.Parts.{over}
 use Rattle.rules.specs.Line.{resetLevel, L1, blankAhead}
 use Rattle.laws.proofs.Lists.{drop-set-here}
+use Rattle.reset.specs.Steps.{aheadOf, Steps}
+use Rattle.reset.specs.declared.Stepped.{Stepped}
 use Rattle.rules.proofs.LineLaws.{length-L1}
-
-abbrev pub aheadOf : ℕ → Bool → Bool
-aheadOf c ahead = if isRemoved c || isBlank c then ahead else isSeparator c
 
 pub L1-drop : (base : ℕ) (cs ls : List ℕ) (k : ℕ) → k < length cs → k < length ls → L1 base (drop k cs) (drop k ls) ≡ resetLevel base (getD cs k 0) (getD ls k 0) (blankAhead (drop (suc k) cs)) ∷ L1 base (drop (suc k) cs) (drop (suc k) ls)
 unfolding L1
@@ -53,13 +52,13 @@ module _ (base : ℕ) (cs ls out₀ out : List ℕ) (ahead : Bool) (same : lengt
   }
 
   -- a turn: what was read, what is put, and what the position before has ahead of it
-  pub next : (i class level v : ℕ) (out′ : List ℕ) (ahead′ : Bool) → 0 < i → Reset base cs ls out₀ out i ahead → class ≡ getD cs (i - 1) 0 → level ≡ getD ls (i - 1) 0 → v ≡ resetLevel base class level ahead → out′ ≡ set out (i - 1) v → ahead′ ≡ aheadOf class ahead → Reset base cs ls out₀ out′ (i - 1) ahead′
-  next i class level v out′ ahead′ h r ec el ev eo ea =
+  pub next : (i class level : ℕ) (step : Stepped) (out′ : List ℕ) → 0 < i → Reset base cs ls out₀ out i ahead → class ≡ getD cs (i - 1) 0 → level ≡ getD ls (i - 1) 0 → Steps base class level ahead step → out′ ≡ set out (i - 1) (step .level) → Reset base cs ls out₀ out′ (i - 1) (step .ahead)
+  next i class level step out′ h r ec el taken eo =
       let put : set out (i - 1) (resetLevel base (getD cs (i - 1) 0) (getD ls (i - 1) 0) ahead) ≡ out′ =
-      ap (set out (i - 1)) (sym (ev ∙ (λ j. resetLevel base (ec j) (el j) ahead))) ∙ sym eo in
-      subst (λ (l : List ℕ). Reset base cs ls out₀ l (i - 1) ahead′) put
+      ap (set out (i - 1)) (sym (taken .level ∙ (λ j. resetLevel base (ec j) (el j) ahead))) ∙ sym eo in
+      subst (λ (l : List ℕ). Reset base cs ls out₀ l (i - 1) (step .ahead)) put
       (subst (λ (b : Bool). Reset base cs ls out₀ (set out (i - 1) (resetLevel base (getD cs (i - 1) 0) (getD ls (i - 1) 0) ahead)) (i - 1) b)
-      (sym (ea ∙ (λ j. aheadOf (ec j) ahead)))
+      (sym (taken .ahead ∙ (λ j. aheadOf (ec j) ahead)))
       (stepped (i - 1) (subst (λ (n : ℕ). Reset base cs ls out₀ out n ahead) (omega arith) r)))
 
   pub ended : (i : ℕ) → i ≤ 0 → Reset base cs ls out₀ out i ahead → out ≡ over (L1 base cs ls) out₀

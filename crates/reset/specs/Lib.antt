@@ -1,2 +1,2 @@
--- What the inner functions of this crate meet.
-pub mod Tails
+-- What a step of the walk says.
+pub mod Steps

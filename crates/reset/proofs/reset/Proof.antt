@@ -1,70 +1,64 @@
--- `reset::reset` meets its contract: the rest is reset as a line of its own, and a separator that ends the line goes to the base.
+-- `reset::reset` meets its contract. The invariant: from position i on the line is reset. The measure is the number of positions left.
 -- Assumes nothing.
-use mathlib.Core.Path.{sym}
-use lib.Seq.{length-take-le}
-use Rattle.reset.proofs.TailLaws.{reset-all, reset-ended}
+use Rattle.reset.proofs.ResetLaws.{Reset, begun, next, ended}
 use borrow.Author.Needs.{needs}
 use Rattle.reset.proofs.reset.Statement.{statement}
 use Rattle.reset.proofs.reset.Tie as tie
 
-before-separator-requires : tie.Need-before-separator-requires
-before-separator-requires c κs = search needs
+abbrev Inv-loop : tie.InvT-loop
+Inv-loop classes levels base out₀ i₀ ahead₀ out i ahead = Reset base classes levels out₀ out i ahead
 
-slice-aggregate-reset-rest : tie.Need-slice-aggregate-reset-rest
-slice-aggregate-reset-rest c = sym (length-take-le _ _ (c .before .before-separator .ensures .within))
+abbrev μ-loop : tie.MeasureT-loop
+μ-loop classes levels base out₀ i₀ ahead₀ out i ahead = i
 
-slice-aggregate-reset-rest-2 : tie.Need-slice-aggregate-reset-rest-2
-slice-aggregate-reset-rest-2 c =
-    let w = c .before .before .before-separator .ensures .within in
-    sym (length-take-le _ _ (search needs))
+loop-holds : tie.Need-loop-holds Inv-loop μ-loop
+loop-holds c = begun _ _ _ _
 
-reset-rest-requires : tie.Need-reset-rest-requires
-reset-rest-requires c κs =
-    let cut = c .before .before .before in
-    let args = cut .before .before .before .before .args in
-    let w = cut .before-separator .ensures .within in
-    let m = length-take-le (cut .before-separator .result) (args .classes .now) w in
-    let n = length-take-le (cut .before-separator .result) (args .levels .now) (search needs) in
-    search needs
+sub-i : tie.Need-sub-i Inv-loop μ-loop
+sub-i c = search needs
 
-same-length : tie.Need-same-length
+byte-at-requires : tie.Need-byte-at-requires Inv-loop μ-loop
+byte-at-requires c κs = search needs
+
+byte-at-requires-2 : tie.Need-byte-at-requires-2 Inv-loop μ-loop
+byte-at-requires-2 c κs = search needs
+
+step-requires : tie.Need-step-requires Inv-loop μ-loop
+step-requires c κs = search needs
+
+put-byte-requires : tie.Need-put-byte-requires Inv-loop μ-loop
+put-byte-requires c κs = search needs
+
+loop-less : tie.Need-loop-less Inv-loop μ-loop
+loop-less c = search needs
+
+loop-again : tie.Need-loop-again Inv-loop μ-loop
+loop-again c =
+    let put = c .before .before in
+    let stepped = put .before .before in
+    let in-loop = stepped .before .before .before in
+    next _ _ _ _ _ _ (search needs) (search needs) _ _ _ _ _ (in-loop .loop-test .taken) (in-loop .before .loop .inv)
+    (stepped .before .before .byte-at .ensures) (stepped .before .byte-at2 .ensures) (stepped .step .ensures) (put .put-byte .ensures)
+
+same-length : tie.Need-same-length Inv-loop μ-loop
 same-length c = search needs
 
-returns : tie.Need-returns
-returns c =
-    let rest = c .before .before .before in
-    let start = rest .before .before .before .before .before .before .before .before in
-    let args = start .args in
-    reset-all (args .base) (args .classes .now) (args .levels .now) (args .out .now) _ _ (start .pre .0) (rest .reset-rest .ensures) (c .if1 .taken)
-
-put-byte-requires : tie.Need-put-byte-requires
-put-byte-requires c κs =
-    let rest = c .before .before .before .before in
-    let w = rest .before .before .before .before .before-separator .ensures .within in
-    search needs
-
-same-length-2 : tie.Need-same-length-2
-same-length-2 c = search needs
-
-returns-2 : tie.Need-returns-2
-returns-2 c =
-    let put = c .before .before in
-    let rest = put .before .before .before .before .before in
-    let cut = rest .before .before .before .before in
-    let start = cut .before .before .before .before in
-    let args = start .args in
-    reset-ended (args .base) (args .classes .now) (args .levels .now) (args .out .now) _ _ (start .pre .0) (rest .reset-rest .ensures) _ (search needs) (put .before .before .if1 .left) (cut .before-separator .ensures) (put .put-byte .ensures)
+returns : tie.Need-returns Inv-loop μ-loop
+returns c = ended _ _ _ _ _ _ (search needs) (search needs) _ (c .loop-test .left) (c .before .loop .inv)
 
 pub reset-spec : {M : Type 1} → statement M
 reset-spec =
     tie.close
     (tie.spec
-    before-separator-requires
-    slice-aggregate-reset-rest
-    slice-aggregate-reset-rest-2
-    reset-rest-requires
-    same-length
-    returns
+    Inv-loop
+    μ-loop
+    loop-holds
+    sub-i
+    byte-at-requires
+    byte-at-requires-2
+    step-requires
     put-byte-requires
-    same-length-2
-    returns-2)
+    loop-less
+    loop-again
+    same-length
+    returns)
