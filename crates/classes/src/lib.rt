@@ -2,7 +2,7 @@
 // of the definitions. Other code compares names; where it goes by their numbers, in a table or a range, a law says why.
 ghost use mathlib.Core.Path.{_≡_};
 ghost use Prim.Native.Nat.{_<_, min};
-ghost use Rattle.rules.specs.Classes.{isUnknown, isParagraphEnd, isOpening, isRemoved, isStrong, isNeutral, isSeparator, isBlank, lastPlace, places};
+ghost use Rattle.rules.specs.Classes.{isUnknown, isParagraphEnd, isOpening, isRemoved, isStrong, isNeutral, isSeparator, isBlank, lastPlace, rowWidth};
 
 pub const L: u8 = 0;
 
@@ -45,7 +45,7 @@ pub const ON: u8 = 18;
 pub const HIGHEST: u8 = ON;
 
 // A table by class has a place for each class, and behind them one for every other number.
-pub const PLACES: usize = HIGHEST as usize + 2;
+pub const ROW_WIDTH: usize = HIGHEST as usize + 2;
 
 // What a level buffer holds at a removed position.
 pub const REMOVED_LEVEL: u8 = 255;
@@ -142,10 +142,10 @@ pub fn is_blank(c: u8) -> bool
 // Where a class stands in a table by class: at its own number, and all that is no class at the last place.
 pub fn place_of(c: u8) -> usize
     ensures { λ r. ⌜ r ≡ min c lastPlace ⌝ }
-    ensures { λ r. ⌜ r < places ⌝ }
+    ensures { λ r. ⌜ r < rowWidth ⌝ }
 {
     if c <= HIGHEST {
         return c as usize;
     }
-    PLACES - 1
+    ROW_WIDTH - 1
 }

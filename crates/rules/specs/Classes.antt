@@ -68,8 +68,8 @@ highestClass = ON
 abbrev pub lastPlace : ℕ
 lastPlace = highestClass + 1
 
-abbrev pub places : ℕ
-places = lastPlace + 1
+abbrev pub rowWidth : ℕ
+rowWidth = lastPlace + 1
 
 unfoldable pub isUnknown : ℕ → Bool
 isUnknown c = ltb highestClass c

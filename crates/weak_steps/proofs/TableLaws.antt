@@ -12,32 +12,32 @@ use lib.Dec.{eqb}
 use lib.ListN.{getD}
 use Rattle.laws.specs.Choice.{if_then_else_}
 use Rattle.laws.specs.Tables.{tableOf}
-use Rattle.rules.specs.Classes.{L, R, AL, EN, ES, ET, CS, lastPlace, places, isStrong}
+use Rattle.rules.specs.Classes.{L, R, AL, EN, ES, ET, CS, lastPlace, rowWidth, isStrong}
 use Rattle.rules.specs.Weak.{changeW2, strongW2, changeW3, changeW6, changeW7, isSide, strongW7}
 use Rattle.laws.proofs.Passes.{by-test}
 use Rattle.laws.proofs.Tables.{Flat, ruleAt, at-place}
 use Rattle.weak_steps.specs.Tables.{keeps, gives, alters, rows, early, late, masked, entry, changed, carried}
 
 -- ---- the places that are read
-pub changed-at : (table : List ℕ) (wanted strong t row place : ℕ) → row ≡ (if eqb strong wanted then places else 0) → place ≡ min t lastPlace → masked t (getD table (row + place) 0) (getD table (2 * places + (row + place)) 0) ≡ changed table wanted strong t
+pub changed-at : (table : List ℕ) (wanted strong t row place : ℕ) → row ≡ (if eqb strong wanted then rowWidth else 0) → place ≡ min t lastPlace → masked t (getD table (row + place) 0) (getD table (2 * rowWidth + (row + place)) 0) ≡ changed table wanted strong t
 unfolding changed
 changed-at table wanted strong t row place is at =
     by-test (eqb strong wanted)
     (λ e.
-    let second : row ≡ places = is ∙ rw e in
-    let near : row + place ≡ 1 * places + min t lastPlace = omega arith in
-    let far : 2 * places + (row + place) ≡ (2 + 1) * places + min t lastPlace = omega arith in
+    let second : row ≡ rowWidth = is ∙ rw e in
+    let near : row + place ≡ 1 * rowWidth + min t lastPlace = omega arith in
+    let far : 2 * rowWidth + (row + place) ≡ (2 + 1) * rowWidth + min t lastPlace = omega arith in
     rw (e, far, near))
     (λ e.
     let first : row ≡ 0 = is ∙ rw e in
-    let near : row + place ≡ 0 * places + min t lastPlace = omega arith in
-    let far : 2 * places + (row + place) ≡ (2 + 0) * places + min t lastPlace = omega arith in
+    let near : row + place ≡ 0 * rowWidth + min t lastPlace = omega arith in
+    let far : 2 * rowWidth + (row + place) ≡ (2 + 0) * rowWidth + min t lastPlace = omega arith in
     rw (e, far, near))
 
-pub carried-at : (table : List ℕ) (strong t place : ℕ) → place ≡ min t lastPlace → masked strong (getD table (4 * places + place) 0) (getD table (places + (4 * places + place)) 0) ≡ carried table strong t
+pub carried-at : (table : List ℕ) (strong t place : ℕ) → place ≡ min t lastPlace → masked strong (getD table (4 * rowWidth + place) 0) (getD table (rowWidth + (4 * rowWidth + place)) 0) ≡ carried table strong t
 unfolding carried
 carried-at table strong t place at =
-    let far : places + (4 * places + place) ≡ 5 * places + min t lastPlace = omega arith in
+    let far : rowWidth + (4 * rowWidth + place) ≡ 5 * rowWidth + min t lastPlace = omega arith in
     rw (far, at)
 
 -- ---- two entries together
@@ -77,10 +77,10 @@ module _ (other behind : ℕ → ℕ) (strong : ℕ → Bool) where
   abbrev all : List (ℕ → ℕ)
   all = rows other behind strong
 
-  read : (row t : ℕ) → Flat lastPlace (ruleAt all row) → entry (tableOf places all) row t ≡ ruleAt all row t
-  read row t flat = at-place places lastPlace all row t (omega arith) flat
+  read : (row t : ℕ) → Flat lastPlace (ruleAt all row) → entry (tableOf rowWidth all) row t ≡ ruleAt all row t
+  read row t flat = at-place rowWidth lastPlace all row t (omega arith) flat
 
-  reads-change : Leaves other → Leaves behind → (wanted s t : ℕ) → t < 256 → changed (tableOf places all) wanted s t ≡ (if eqb s wanted then behind t else other t)
+  reads-change : Leaves other → Leaves behind → (wanted s t : ℕ) → t < 256 → changed (tableOf rowWidth all) wanted s t ≡ (if eqb s wanted then behind t else other t)
   unfolding changed
   reads-change leaves-other leaves-behind wanted s t h =
       let o : OnlyClasses (alters other) = leaves-only other leaves-other in
@@ -89,7 +89,7 @@ module _ (other behind : ℕ → ℕ) (strong : ℕ → Bool) where
       (λ e. rw e (by-entries behind t _ _ h (read 1 t (keeps-flat (alters behind) b)) (read 3 t (gives-flat (alters behind) behind b))))
       (λ e. rw e (by-entries other t _ _ h (read 0 t (keeps-flat (alters other) o)) (read 2 t (gives-flat (alters other) other o))))
 
-  reads-strong : OnlyClasses strong → (s t : ℕ) → s < 256 → carried (tableOf places all) s t ≡ (if strong t then t else s)
+  reads-strong : OnlyClasses strong → (s t : ℕ) → s < 256 → carried (tableOf rowWidth all) s t ≡ (if strong t then t else s)
   unfolding carried
   reads-strong only s t h =
       ap₂ (masked s) (read 4 t (keeps-flat strong only)) (read 5 t (gives-flat strong (λ u. u) only)) ∙ mask s t (strong t) h

@@ -7,7 +7,7 @@ use lib.Dec.{eqb}
 use lib.ListN.{getD}
 use Rattle.laws.specs.Choice.{if_then_else_}
 use Rattle.laws.specs.Tables.{tableOf}
-use Rattle.rules.specs.Classes.{L, R, AL, lastPlace, places, isStrong}
+use Rattle.rules.specs.Classes.{L, R, AL, lastPlace, rowWidth, isStrong}
 use Rattle.rules.specs.Weak.{changeW2, changeW3, changeW6, changeW7, isSide}
 
 -- two entries for a type: 255 where what was stays and 0 where it changes; and what it changes to, 0 where it stays
@@ -31,16 +31,16 @@ rows other behind strong =
 
 -- W2 and W3, where AL makes a difference; L stands for any other strong type
 unfoldable pub early : List ℕ
-early = tableOf places (rows (λ t. changeW3 (changeW2 L t)) (λ t. changeW3 (changeW2 AL t)) isStrong)
+early = tableOf rowWidth (rows (λ t. changeW3 (changeW2 L t)) (λ t. changeW3 (changeW2 AL t)) isStrong)
 
 -- W6 and W7, where L makes a difference; R stands for any other
 unfoldable pub late : List ℕ
-late = tableOf places (rows (λ t. changeW7 R (changeW6 t)) (λ t. changeW7 L (changeW6 t)) isSide)
+late = tableOf rowWidth (rows (λ t. changeW7 R (changeW6 t)) (λ t. changeW7 L (changeW6 t)) isSide)
 
 -- ---- reading
 -- a type's entry in one of the rows
 abbrev pub entry : List ℕ → ℕ → ℕ → ℕ
-entry table row t = getD table (row * places + min t lastPlace) 0
+entry table row t = getD table (row * rowWidth + min t lastPlace) 0
 
 -- what two entries leave of a number: all of it or nothing, and then what it changes to
 abbrev pub masked : ℕ → ℕ → ℕ → ℕ

@@ -4,12 +4,12 @@ ghost use mathlib.Core.Path.{_≡_};
 ghost use lib.Dec.{eqb};
 ghost use Prim.Native.Nat.{_≤_};
 ghost use Rattle.laws.specs.Choice.{if_then_else_};
-ghost use Rattle.rules.specs.Classes.{ET, places};
+ghost use Rattle.rules.specs.Classes.{ET, rowWidth};
 ghost use Rattle.rules.specs.Weak.{changeW1, changeW4, changeW5};
 ghost use Rattle.weak_steps.specs.Tables.{early, late, changed, carried};
 
 // A table has six rows, each with an entry for each class and one for all other numbers.
-pub const ENTRIES: usize = 6 * classes::PLACES;
+pub const ENTRIES: usize = 6 * classes::ROW_WIDTH;
 
 pub fn change_w1(before: u8, t: u8) -> u8
     ensures { λ r. ⌜ r ≡ changeW1 before t ⌝ }
@@ -63,11 +63,11 @@ pub fn change_w5(before: u8, next: u8) -> u8
 
 // The second row of two is for what stands behind the strong type that is wanted.
 fn row_behind(strong: u8, wanted: u8) -> usize
-    ensures { λ r. ⌜ r ≡ (if eqb strong wanted then places else 0) ⌝ }
-    ensures { λ r. ⌜ r ≤ places ⌝ }
+    ensures { λ r. ⌜ r ≡ (if eqb strong wanted then rowWidth else 0) ⌝ }
+    ensures { λ r. ⌜ r ≤ rowWidth ⌝ }
 {
     if strong == wanted {
-        return classes::PLACES;
+        return classes::ROW_WIDTH;
     }
     0
 }
@@ -77,15 +77,15 @@ pub fn change(table: &[u8; ENTRIES], wanted: u8, strong: u8, t: u8) -> u8
     ensures { λ r. ⌜ r ≡ changed (now (table .entry)) wanted strong t ⌝ }
 {
     let at = row_behind(strong, wanted) + classes::place_of(t);
-    t & table[at] | table[2 * classes::PLACES + at]
+    t & table[at] | table[2 * classes::ROW_WIDTH + at]
 }
 
 // The strong type for what follows.
 pub fn carry(table: &[u8; ENTRIES], strong: u8, t: u8) -> u8
     ensures { λ r. ⌜ r ≡ carried (now (table .entry)) strong t ⌝ }
 {
-    let at = 4 * classes::PLACES + classes::place_of(t);
-    strong & table[at] | table[classes::PLACES + at]
+    let at = 4 * classes::ROW_WIDTH + classes::place_of(t);
+    strong & table[at] | table[classes::ROW_WIDTH + at]
 }
 
 // Two entries of a table say what becomes of a type: 255 where it stays, or else 0 and the new type. Two rows are for
