@@ -6,11 +6,10 @@ use native.Mathlib.Omega.{arith}
 use mathlib.Core.Path.{_≡_, refl, sym, ap, subst, _∙_}
 use mathlib.Core.Bool.{Bool, true, false}
 use mathlib.Core.List.{List, [], _∷_, _++_, append-assoc, append-nil}
-use lib.Dec.{leb, ltb}
+use lib.Dec.{leb}
 use lib.ListN.{length, getD, take, drop, length-append, length-drop, length-map, drop-of-length-le}
 use lib.Seq.{take-at, drop-at, drop-drop, length-take-le, take-all, drop-length}
 use borrow.Rule.Slice.PartMut.{putMid, post-is}
-use borrow.Author.Tests.{ltb-true, eqb-true}
 use Rattle.laws.specs.Choice.{if_then_else_}
 use Rattle.rules.specs.Classes.{isRemoved}
 use Rattle.laws.specs.Parts.{over, part}

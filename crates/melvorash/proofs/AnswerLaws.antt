@@ -7,7 +7,7 @@ use lib.ListN.{length}
 use Rattle.laws.specs.Parts.{over}
 use Rattle.rules.specs.Paragraph.{baseOf}
 use Rattle.rules.specs.Refusals.{Check, sound, refuse, checksOfLevels}
-use Rattle.rules.specs.Jobs.{Answer, accepted, refused, answered, whereSound, levelsAnswer}
+use Rattle.rules.specs.Jobs.{accepted, refused, answered, whereSound, levelsAnswer}
 use Rattle.rules.proofs.JobLaws.{answer-refused, answer-sound, left-refused, left-sound}
 use Rattle.melvorash.specs.Answers.{Leaves}
 

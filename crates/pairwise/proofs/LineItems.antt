@@ -17,7 +17,8 @@ use Rattle.laws.proofs.Passes.{by-test}
 use Rattle.pairwise.proofs.Count.{one, count, standsAt}
 use Rattle.pairwise.proofs.Least.{levels}
 use Rattle.pairwise.proofs.Pairs.{from-to}
-use Rattle.pairwise.proofs.Parts.{length-part, split-part, part-ends}
+use Rattle.laws.proofs.Lists.{length-part}
+use Rattle.pairwise.proofs.Parts.{split-part, part-ends}
 
 -- the item of a position at a level
 abbrev pub item : ℕ → ℕ → Item
@@ -144,14 +145,14 @@ module _ (at : ℕ) (cs ls : List ℕ) (same : length cs ≡ length ls) (i j : �
   items-between = items (suc (at + i)) (part (suc i) j cs) (part (suc i) j ls)
 
   same-between : length (part (suc i) j cs) ≡ length (part (suc i) j ls)
-  same-between = length-part (suc i) j cs less (omega arith) ∙ sym (length-part (suc i) j ls less (omega arith))
+  same-between = length-part cs (suc i) j (omega arith) ∙ sym (length-part ls (suc i) j (omega arith))
 
   same-part : length (part i (suc j) cs) ≡ length (part i (suc j) ls)
-  same-part = length-part i (suc j) cs (omega arith) within ∙ sym (length-part i (suc j) ls (omega arith) (omega arith))
+  same-part = length-part cs i (suc j) within ∙ sym (length-part ls i (suc j) (omega arith))
 
   last-alone : items (suc (at + i) + length (part (suc i) j cs)) (getD cs j 0 ∷ []) (getD ls j 0 ∷ []) ≡ last-item ∷ []
   last-alone =
-      let there : suc (at + i) + length (part (suc i) j cs) ≡ at + j = omega (arith, length-part (suc i) j cs less (omega arith)) in
+      let there : suc (at + i) + length (part (suc i) j cs) ≡ at + j = omega (arith, length-part cs (suc i) j (omega arith)) in
       ap (λ (k : ℕ). items k (getD cs j 0 ∷ []) (getD ls j 0 ∷ [])) there
       ∙ items-kept (at + j) (getD cs j 0) (getD ls j 0) [] [] stays-j
       ∙ ap (λ (r : List Item). last-item ∷ r) (items-nil (suc (at + j)) [])

@@ -5,12 +5,8 @@ use native.Mathlib.Omega.{arith}
 use mathlib.Core.Path.{_≡_, sym, ap, _∙_}
 use mathlib.Core.List.{List, [], _∷_, _++_}
 use lib.ListN.{length, getD, take, drop, length-drop, take-append-drop}
-use lib.Seq.{drop-cons, take-suc, take-nil, take-take, drop-drop, getD-take, getD-drop, length-take-le}
+use lib.Seq.{drop-cons, take-suc, take-nil, take-take, drop-drop, getD-take, getD-drop}
 use Rattle.laws.specs.Parts.{part}
-
-pub length-part : (from to : ℕ) (xs : List ℕ) → from ≤ to → to ≤ length xs → length (part from to xs) ≡ to - from
-unfolding part
-length-part from to xs up within = length-take-le (to - from) (drop from xs) (omega (arith, length-drop from xs))
 
 pub getD-part : (from to : ℕ) (xs : List ℕ) (i : ℕ) → i < to - from → getD (part from to xs) i 0 ≡ getD xs (from + i) 0
 unfolding part

@@ -21,7 +21,8 @@ use Rattle.pairwise.proofs.Sides.{Left}
 use Rattle.pairwise.proofs.Least.{levels}
 use Rattle.pairwise.proofs.Pairs.{from-to, count-L2, even-left, odd-right}
 use Rattle.pairwise.proofs.Places.{places, At, counted, place, one-place, left-is-lower}
-use Rattle.pairwise.proofs.Parts.{length-part, getD-part, part-part}
+use Rattle.laws.proofs.Lists.{length-part}
+use Rattle.pairwise.proofs.Parts.{getD-part, part-part}
 use Rattle.pairwise.proofs.LineItems.{kept-counted, counted-once, counted-kept, item, Spanned, spanned}
 
 -- a line with any levels, one for each of its positions
@@ -33,7 +34,7 @@ module _ (cs ls : List ℕ) (from to : ℕ) (up : from ≤ to) (within : to ≤ 
   arranged = L2 (items from classes ls)
 
   same : length classes ≡ length ls
-  same = length-part from to cs up within ∙ sym long
+  same = length-part cs from to within ∙ sym long
 
   stays-on-line : (i : ℕ) → i < to - from → isRemoved (getD classes i 0) ≡ isRemoved (getD cs (from + i) 0)
   stays-on-line i inside = ap isRemoved (getD-part from to cs i inside)
@@ -124,7 +125,7 @@ module _ (cs ls : List ℕ) (from to : ℕ) (up : from ≤ to) (within : to ≤ 
 pub demand3 : (base : ℕ) (cs ls : List ℕ) (from to : ℕ) → from ≤ to → to ≤ length cs → length cs ≤ length ls → Displayed cs (lineLevels base cs ls from to) (lineOrder base cs ls from to) from to
 unfolding lineLevels lineOrder
 demand3 base cs ls from to up within room =
-    let classes : length (part from to cs) ≡ to - from = length-part from to cs up within in
-    let levels : length (part from to ls) ≡ to - from = length-part from to ls up (omega arith) in
+    let classes : length (part from to cs) ≡ to - from = length-part cs from to within in
+    let levels : length (part from to ls) ≡ to - from = length-part ls from to (omega arith) in
     displayed cs (L1 base (part from to cs) (part from to ls)) from to up within
     (length-L1 base (part from to cs) (part from to ls) (levels ∙ sym classes) ∙ classes)

@@ -3,12 +3,10 @@
 use Prim.Native.Nat.{ℕ, suc, _-_, _≤_, _<_}
 use native.Mathlib.Omega.{arith}
 use mathlib.Core.Path.{_≡_, refl, sym, ap, subst, _∙_}
-use mathlib.Core.Bool.{Bool, true, _||_}
+use mathlib.Core.Bool.{Bool, true}
 use mathlib.Core.List.{List, [], _∷_, _++_}
 use lib.ListN.{length, getD, drop, set, length-set}
 use lib.Seq.{drop-cons, drop-length}
-use Rattle.laws.specs.Choice.{if_then_else_}
-use Rattle.rules.specs.Classes.{isRemoved, isSeparator, isBlank}
 use Rattle.laws.specs.Parts.{over}
 use Rattle.rules.specs.Line.{resetLevel, L1, blankAhead}
 use Rattle.laws.proofs.Lists.{drop-set-here}

@@ -1,6 +1,6 @@
 -- Each way through a step of the walk. Assumes nothing.
 use Prim.Native.Nat.{ℕ}
-use mathlib.Core.Path.{_≡_, refl, sym, _∙_}
+use mathlib.Core.Path.{_≡_, refl, _∙_}
 use mathlib.Core.Bool.{Bool, true, false, _||_, _&&_}
 use borrow.Author.Tests.{eqb-true}
 use lib.Dec.{eqb}
@@ -8,7 +8,6 @@ use Rattle.laws.specs.Choice.{if_then_else_}
 use Rattle.laws.proofs.Passes.{by-test}
 use Rattle.rules.specs.Classes.{B, S, isOpening, isRemoved, isParagraphEnd, isSeparator, isBlank}
 use Rattle.reset.specs.Steps.{backTo, Steps}
-use Rattle.reset.specs.declared.Stepped.{Stepped}
 
 -- a separator is neither removed nor a blank
 set-by-separator : (c : ℕ) → isSeparator c ≡ true → (isRemoved c || isBlank c) ≡ false

@@ -1,7 +1,7 @@
 -- The jobs: what each answers, and what it leaves in the buffer that it is lent.
 use Prim.Native.Nat.{ℕ}
-use mathlib.Core.List.{List, [], _++_}
-use lib.ListN.{length, drop}
+use mathlib.Core.List.{List, []}
+use lib.ListN.{length}
 use Rattle.laws.specs.Parts.{over}
 use Rattle.rules.specs.Paragraph.{P1, baseByText, baseOf}
 use Rattle.rules.specs.Explicit.{X1, explicitLevels}

@@ -4,10 +4,10 @@ use Prim.Native.Nat.{ℕ, _+_, _*_, _≤_, _<_, min}
 use native.Mathlib.Nat.{le-refl, mod-eq-of-lt}
 use native.Mathlib.Omega.{arith}
 use mathlib.Core.Bool.{Bool, true, false, not}
-use mathlib.Core.Path.{_≡_, refl, sym, ap, ap₂, _∙_}
+use mathlib.Core.Path.{_≡_, sym, ap, ap₂, _∙_}
 use mathlib.Core.List.{List}
 use borrow.Author.Tests.{eq-eqb, ne-eqb, eqb-true}
-use lib.Bits.{bitAnd, bitOr, and-zero-r, or-zero-l, or-zero-r, and-mask}
+use lib.Bits.{bitAnd, and-zero-r, or-zero-l, or-zero-r, and-mask}
 use lib.Dec.{eqb}
 use lib.ListN.{getD}
 use Rattle.laws.specs.Choice.{if_then_else_}
