@@ -64,7 +64,7 @@ pub(crate) fn is_fault(class: u8) -> bool
     ensures { λ r. ⌜ r ≡ isFault class ⌝ }
 {
     if classes::is_unknown(class) {
-        return true;
+        return true; // 2
     }
     classes::is_paragraph_end(class)
 }

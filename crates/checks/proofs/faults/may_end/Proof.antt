@@ -30,7 +30,7 @@ returns-2 c =
     c .is-pair .ensures ∙ may-pair _ _ (length-drop (a .i + 1) (now (a .classes)) ∙ omega arith)
 
 returns-3 : tie.Need-returns-3
-returns-3 c = 
+returns-3 c =
     let a = c .before .before .before .args in
     let left : length (drop (a .i + 1) (now (a .classes))) ≡ length (now (a .classes)) - (a .i + 1) = length-drop (a .i + 1) (now (a .classes)) in
     may-not _ _ (λ none. c .before .if1 .left (omega arith)) (λ one. c .if2 .left (omega arith))

@@ -53,7 +53,6 @@ returns-3 c =
 is-paragraph-end-requires : tie.Need-is-paragraph-end-requires Inv-loop μ-loop
 is-paragraph-end-requires c κs = search needs
 
-
 is-pair-requires : tie.Need-is-pair-requires Inv-loop μ-loop
 is-pair-requires c κs = search needs
 
