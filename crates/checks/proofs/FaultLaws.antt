@@ -1,43 +1,64 @@
--- The laws of the first fault: each way through the fault at a position, one step of the walk, and that it is the last
--- position's fault where there is none before. Assumes nothing.
+-- The laws of the first fault: each way through the fault at a position, one step of the walk, and that it is the fault
+-- where what closes the paragraph begins, if there is none before. Assumes nothing.
 use Prim.Native.Nat.{ℕ, zero, suc, _+_, _-_, _≤_, _<_}
 use native.Mathlib.Nat.{add-zero}
 use native.Mathlib.Numerals.{add-one}
 use native.Mathlib.Omega.{arith}
 use mathlib.Core.Path.{_≡_, refl, sym, ap, _∙_}
-use mathlib.Core.Bool.{true, false}
+use mathlib.Core.Bool.{Bool, true, false, _&&_}
 use mathlib.Core.List.{List, [], _∷_}
-use lib.ListN.{length, getD, take, drop, drop-of-length-le}
+use borrow.Author.Tests.{ne-eqb, eqb-true}
+use lib.Dec.{eqb}
+use lib.ListN.{length, getD, take, drop, length-drop, drop-of-length-le}
 use Rattle.laws.specs.Any.{anyOf}
 use Rattle.laws.proofs.Any.{neither, none-first}
 use Rattle.laws.proofs.Lists.{drop-next}
-use Rattle.rules.specs.Classes.{isUnknown, isParagraphEnd}
-use Rattle.rules.specs.Refusals.{Check, sound, refuse, _andThen_, isEmpty, faultAt, firstFault}
-use Rattle.checks.specs.Faults.{isFault}
+use Rattle.laws.proofs.Passes.{by-test}
+use Rattle.laws.proofs.Tests.{not-both, and-false}
+use Rattle.rules.specs.Classes.{B, CR, isUnknown, isParagraphEnd}
+use Rattle.rules.specs.Paragraph.{isPair}
+use Rattle.rules.specs.Refusals.{Check, sound, refuse, _andThen_, isEmpty, mayEnd, faultAt, firstFault}
+use Rattle.rules.proofs.PairLaws.{pair-past}
+use Rattle.checks.specs.Faults.{isFault, closingAt}
+
+-- ---- what may end a paragraph, by how much stands behind it
+pub may-last : (c : ℕ) (cs : List ℕ) → length cs ≡ 0 → true ≡ mayEnd c cs
+unfolding mayEnd
+may-last c [] none = refl
+may-last c (d ∷ cs) none = absurd (omega arith)
+
+and-true : (b : Bool) → b ≡ (b && true)
+and-true true = refl
+and-true false = refl
+
+pub may-pair : (c : ℕ) (cs : List ℕ) → length cs ≡ 1 → isPair c cs ≡ mayEnd c cs
+unfolding mayEnd
+may-pair c [] one = absurd (omega arith)
+may-pair c (d ∷ []) one = and-true (isPair c (d ∷ []))
+may-pair c (d ∷ e ∷ cs) one = absurd (omega arith)
+
+pub may-not : (c : ℕ) (cs : List ℕ) → (length cs ≡ 0 → ⊥) → (length cs ≡ 1 → ⊥) → false ≡ mayEnd c cs
+unfolding mayEnd
+may-not c [] some more = absurd (some refl)
+may-not c (d ∷ []) some more = absurd (more refl)
+may-not c (d ∷ e ∷ cs) some more = rw (ne-eqb (length (d ∷ e ∷ cs)) 1 more) (sym (and-false (isPair c (d ∷ e ∷ cs))))
 
 -- ---- the fault at one position
 pub fault-unknown : (at c : ℕ) (cs : List ℕ) → isUnknown c ≡ true → faultAt at c cs ≡ refuse 2 at
 unfolding faultAt
 fault-unknown at c cs u = rw u
 
-pub fault-early : (at c : ℕ) (cs : List ℕ) → isUnknown c ≡ false → isParagraphEnd c ≡ true → isEmpty cs ≡ false → faultAt at c cs ≡ refuse 4 at
+pub fault-early : (at c : ℕ) (cs : List ℕ) → isUnknown c ≡ false → isParagraphEnd c ≡ true → mayEnd c cs ≡ false → faultAt at c cs ≡ refuse 4 at
 unfolding faultAt
 fault-early at c cs u p e = rw (u, p, e)
 
-pub fault-last : (at c : ℕ) (cs : List ℕ) → isUnknown c ≡ false → isParagraphEnd c ≡ true → isEmpty cs ≡ true → faultAt at c cs ≡ sound
+pub fault-last : (at c : ℕ) (cs : List ℕ) → isUnknown c ≡ false → isParagraphEnd c ≡ true → mayEnd c cs ≡ true → faultAt at c cs ≡ sound
 unfolding faultAt
 fault-last at c cs u p e = rw (u, p, e)
 
 pub fault-none : (at c : ℕ) (cs : List ℕ) → isUnknown c ≡ false → isParagraphEnd c ≡ false → faultAt at c cs ≡ sound
 unfolding faultAt
 fault-none at c cs u p = rw (u, p)
-
--- ---- what is left of a list is empty exactly at its end
-pub more-left : (xs : List ℕ) (i : ℕ) → i < length xs → isEmpty (drop i xs) ≡ false
-more-left xs i h = rw (drop-next xs i h)
-
-pub none-left : (xs : List ℕ) (i : ℕ) → length xs ≤ i → isEmpty (drop i xs) ≡ true
-none-left xs i h = rw (drop-of-length-le xs h)
 
 -- ---- the walk to the first fault
 fault-step : (at c : ℕ) (cs : List ℕ) → firstFault at (c ∷ cs) ≡ (faultAt at c cs andThen firstFault (suc at) cs)
@@ -71,29 +92,79 @@ no-fault at c cs none =
     let both : (isUnknown c ≡ false) × (isParagraphEnd c ≡ false) = neither (isUnknown c) (isParagraphEnd c) none in
     fault-none at c cs (both .0) (both .1)
 
--- ---- no fault before the last position
+-- ---- no fault before what closes the paragraph
+none-before : (at n : ℕ) (cs : List ℕ) → anyOf isFault (take n cs) ≡ false → n ≤ length cs → firstFault at cs ≡ firstFault (at + n) (drop n cs)
+unfolding firstFault
+none-before at zero cs none within = rw add-zero
+none-before at (suc n) [] none within = absurd (omega arith)
+none-before at (suc n) (c ∷ cs) none within =
+    let first : (isFault c ≡ false) × (anyOf isFault (take n cs) ≡ false) = none-first isFault c (take n cs) none in
+    let same : suc at + n ≡ at + suc n = omega arith in
+    ap (λ (check : Check). check andThen firstFault (suc at) cs) (no-fault at c cs (first .0))
+    ∙ none-before (suc at) n cs (first .1) (omega arith)
+    ∙ ap (λ (k : ℕ). firstFault k (drop n cs)) same
+
+-- nothing is at fault behind what may end
+none-behind : (at c : ℕ) (cs : List ℕ) → mayEnd c cs ≡ true → firstFault at cs ≡ sound
+unfolding mayEnd isPair firstFault faultAt isUnknown isParagraphEnd
+none-behind at c [] ends = refl
+none-behind at c (d ∷ []) ends = by-test (eqb d B)
+    (λ b. let is : d ≡ B = eqb-true d B b in rw is)
+    (λ b. absurd (not-both ends (rw b (ap (λ (p : Bool). p && true) (and-false (eqb c CR))))))
+none-behind at c (d ∷ e ∷ cs) ends =
+    absurd (not-both ends (sym (may-not c (d ∷ e ∷ cs) (λ none. omega arith) (λ one. omega arith))))
+
 then-sound : (check : Check) → (check andThen sound) ≡ check
 then-sound sound = refl
 then-sound (refuse number place) = refl
 
-pub only-last : (at last : ℕ) (cs : List ℕ) → last + 1 ≡ length cs → anyOf isFault (take last cs) ≡ false → firstFault at cs ≡ faultAt (at + last) (getD cs last 0) (drop (last + 1) cs)
-unfolding firstFault
-only-last at last [] long none = absurd (omega arith)
-only-last at zero (c ∷ []) long none = rw add-zero (then-sound (faultAt at c []))
-only-last at zero (c ∷ d ∷ cs) long none = absurd (omega arith)
-only-last at (suc last) (c ∷ cs) long none =
-    let first : (isFault c ≡ false) × (anyOf isFault (take last cs) ≡ false) = none-first isFault c (take last cs) none in
-    let same : suc at + last ≡ at + suc last = omega arith in
-    let behind : suc (last + 1) ≡ suc last + 1 = omega arith in
-    ap (λ (check : Check). check andThen firstFault (suc at) cs) (no-fault at c cs (first .0))
-    ∙ only-last (suc at) last cs (omega arith) (first .1)
-    ∙ ap (λ (n : ℕ). faultAt n (getD cs last 0) (drop (last + 1) cs)) same
-    ∙ ap (λ (n : ℕ). faultAt (at + suc last) (getD cs last 0) (drop n (c ∷ cs))) behind
-
-pub last-is-first : (cs : List ℕ) (found : Check) → 0 < length cs → anyOf isFault (take (length cs - 1) cs) ≡ false → found ≡ faultAt (length cs - 1) (getD cs (length cs - 1) 0) (drop (length cs - 1 + 1) cs) → found ≡ firstFault 0 cs
-last-is-first cs found some none e =
-    let long : length cs - 1 + 1 ≡ length cs = omega arith in
-    let here : length cs - 1 ≡ 0 + (length cs - 1) = omega arith in
+pub closing-is-first : (cs : List ℕ) (n : ℕ) (found : Check) → n < length cs → mayEnd (getD cs n 0) (drop (n + 1) cs) ≡ true → anyOf isFault (take n cs) ≡ false → found ≡ faultAt n (getD cs n 0) (drop (n + 1) cs) → found ≡ firstFault 0 cs
+closing-is-first cs n found within ends none e =
+    let here : 0 + n ≡ n = omega arith in
     e
-    ∙ ap (λ (n : ℕ). faultAt n (getD cs (length cs - 1) 0) (drop (length cs - 1 + 1) cs)) here
-    ∙ sym (only-last 0 (length cs - 1) cs long none)
+    ∙ sym (then-sound (faultAt n (getD cs n 0) (drop (n + 1) cs)))
+    ∙ ap (λ (rest : Check). faultAt n (getD cs n 0) (drop (n + 1) cs) andThen rest) (sym (none-behind (suc n) (getD cs n 0) (drop (n + 1) cs) ends))
+    ∙ sym (fault-step n (getD cs n 0) (drop (n + 1) cs))
+    ∙ ap (firstFault n) (sym (drop-next cs n within))
+    ∙ ap (λ (k : ℕ). firstFault k (drop n cs)) (sym here)
+    ∙ sym (none-before 0 n cs none (omega arith))
+
+-- ---- where what closes the paragraph begins
+pub closing-alone : (cs : List ℕ) → length cs ≡ 1 → length cs - 1 ≡ closingAt cs
+unfolding closingAt
+closing-alone cs one =
+    rw (pair-past (getD cs (length cs - 1 - 1) 0) cs (length cs - 1 - 1 + 1) (omega arith))
+
+pub closing-pair : (cs : List ℕ) → isPair (getD cs (length cs - 1 - 1) 0) (drop (length cs - 1 - 1 + 1) cs) ≡ true → length cs - 1 - 1 ≡ closingAt cs
+unfolding closingAt
+closing-pair cs pair = rw pair
+
+pub closing-last : (cs : List ℕ) → isPair (getD cs (length cs - 1 - 1) 0) (drop (length cs - 1 - 1 + 1) cs) ≡ false → length cs - 1 ≡ closingAt cs
+unfolding closingAt
+closing-last cs pair = rw pair
+
+pair-of-two : (cs : List ℕ) → isPair (getD cs (length cs - 1 - 1) 0) (drop (length cs - 1 - 1 + 1) cs) ≡ true → 2 ≤ length cs
+pair-of-two [] pair = absurd (not-both pair (pair-past 0 [] 1 (omega arith)))
+pair-of-two (c ∷ []) pair = absurd (not-both pair (pair-past c (c ∷ []) 1 (omega arith)))
+pair-of-two (c ∷ d ∷ cs) pair = omega arith
+
+pub record Closing (cs : List ℕ) (n : ℕ) : Type 0 where
+  pub within : n < length cs
+  pub ends : mayEnd (getD cs n 0) (drop (n + 1) cs) ≡ true
+
+pub closing : (cs : List ℕ) (n : ℕ) → 0 < length cs → n ≡ closingAt cs → Closing cs n
+closing cs n some e =
+    by-test (isPair (getD cs (length cs - 1 - 1) 0) (drop (length cs - 1 - 1 + 1) cs))
+    (λ pair. at-pair (e ∙ sym (closing-pair cs pair)) pair)
+    (λ alone. at-last (e ∙ sym (closing-last cs alone)))
+  where
+    at-last : n ≡ length cs - 1 → Closing cs n
+    at-last is =
+        let none : length (drop (n + 1) cs) ≡ 0 = length-drop (n + 1) cs ∙ omega arith in
+        record { within = omega arith; ends = sym (may-last (getD cs n 0) (drop (n + 1) cs) none) }
+
+    at-pair : n ≡ length cs - 1 - 1 → isPair (getD cs (length cs - 1 - 1) 0) (drop (length cs - 1 - 1 + 1) cs) ≡ true → Closing cs n
+    at-pair is pair =
+        let two : 2 ≤ length cs = pair-of-two cs pair in
+        let one : length (drop (n + 1) cs) ≡ 1 = length-drop (n + 1) cs ∙ omega arith in
+        record { within = omega arith; ends = sym (may-pair (getD cs n 0) (drop (n + 1) cs) one) ∙ rw is pair }

@@ -6,10 +6,25 @@ use refusals::at;
 ghost use mathlib.Core.Path.{_≡_};
 ghost use Prim.Native.Nat.{_+_, _<_};
 ghost use lib.ListN.{length, getD, drop};
-ghost use Rattle.rules.specs.Refusals.{faultAt, firstFault};
+ghost use Rattle.rules.specs.Refusals.{mayEnd, faultAt, firstFault};
 ghost use Rattle.laws.specs.Any.{anyOf};
 ghost use Rattle.refusals.specs.Page.{checkOf};
-ghost use Rattle.checks.specs.Faults.{isFault};
+ghost use Rattle.checks.specs.Faults.{isFault, closingAt};
+
+// Whether a separator may stand here: last, or as the CR of a last pair.
+pub(crate) fn may_end(classes: &[u8], i: usize) -> bool
+    requires { ⌜ i < length (now classes) ⌝ }
+    ensures { λ r. ⌜ r ≡ mayEnd (getD (now (classes .entry)) i 0) (drop (i + 1) (now (classes .entry))) ⌝ }
+{
+    let behind = classes.len() - i - 1;
+    if behind == 0 {
+        return true;
+    }
+    if behind == 1 {
+        return paragraph::is_pair(classes, i);
+    }
+    false
+}
 
 // At one position: a question of the list and the index, since a separator may stand last.
 pub(crate) fn fault_at(classes: &[u8], i: usize) -> Checked
@@ -21,10 +36,10 @@ pub(crate) fn fault_at(classes: &[u8], i: usize) -> Checked
         return Checked::Refused(at(UNKNOWN_CLASS, i));
     }
     if classes::is_paragraph_end(class) {
-        if i + 1 < classes.len() {
-            return Checked::Refused(at(EARLY_SEPARATOR, i));
+        if may_end(classes, i) {
+            return Checked::Sound;
         }
-        return Checked::Sound;
+        return Checked::Refused(at(EARLY_SEPARATOR, i));
     }
     Checked::Sound
 }
@@ -67,15 +82,30 @@ pub(crate) fn any_fault(classes: &[u8]) -> bool
     found
 }
 
+// Where what closes a paragraph begins: at the CR of a last pair, or else at the last position.
+pub(crate) fn closing_at(classes: &[u8]) -> usize
+    requires { ⌜ 0 < length (now classes) ⌝ }
+    ensures { λ r. ⌜ r ≡ closingAt (now (classes .entry)) ⌝ }
+{
+    let last = classes.len() - 1;
+    if last == 0 {
+        return last;
+    }
+    if paragraph::is_pair(classes, last - 1) {
+        return last - 1;
+    }
+    last
+}
+
 // The first faulty position from the left. Almost always there is none, so the walk is made only where there is one
-// before the last; the last alone may be a separator.
+// before what closes the paragraph; the pair and the last position alone may be separators.
 pub(crate) fn first_fault(classes: &[u8]) -> Checked
     requires { ⌜ 0 < length (now classes) ⌝ }
     ensures { λ r. ⌜ checkOf r ≡ firstFault 0 (now (classes .entry)) ⌝ }
 {
-    let last = classes.len() - 1;
-    if any_fault(&classes[..last]) {
+    let closing = closing_at(classes);
+    if any_fault(&classes[..closing]) {
         return search_fault(classes);
     }
-    fault_at(classes, last)
+    fault_at(classes, closing)
 }

@@ -42,7 +42,9 @@ pub const WS: u8 = 17;
 
 pub const ON: u8 = 18;
 
-pub const HIGHEST: u8 = ON;
+pub const CR: u8 = 19;
+
+pub const HIGHEST: u8 = CR;
 
 // A table by class has a place for each class, and behind them one for every other number.
 pub const ROW_WIDTH: usize = HIGHEST as usize + 2;
@@ -67,7 +69,10 @@ pub fn is_unknown(c: u8) -> bool
 pub fn is_paragraph_end(c: u8) -> bool
     ensures { λ r. ⌜ r ≡ isParagraphEnd c ⌝ }
 {
-    c == B
+    if c == B {
+        return true;
+    }
+    c == CR
 }
 
 pub fn is_opening(c: u8) -> bool

@@ -1,27 +1,31 @@
--- Cut: its walk, step by step, and what stands after the first paragraph.
+-- Cut: its walk, step by step, and the paragraph as a part of the text.
 -- Assumes nothing.
-use Prim.Native.Nat.{ℕ, suc, _+_, _-_, _≤_, _<_}
+use Prim.Native.Nat.{ℕ, suc, _+_, _-_, _≤_, _<_, min}
 use native.Mathlib.Nat.{zero-add}
 use native.Mathlib.Numerals.{add-one}
 use native.Mathlib.Omega.{arith}
 use mathlib.Core.Path.{_≡_, refl, ap, ap₂, _∙_}
 use mathlib.Core.Bool.{Bool, true, false}
 use mathlib.Core.List.{List, [], _∷_}
-use lib.ListN.{length, getD, take, drop, drop-of-length-le}
+use borrow.Author.Tests.{eq-eqb, ne-eqb}
+use lib.Dec.{eqb}
+use lib.ListN.{length, getD, take, drop, length-take, drop-of-length-le}
 use Rattle.laws.specs.Choice.{if_then_else_}
-use Rattle.rules.specs.Classes.{isUnknown, isParagraphEnd}
-use Rattle.rules.specs.Paragraph.{P1}
-use Rattle.rules.specs.Refusals.{longestParagraph, Check, sound, refuse, checkSome, walk, checksOfCut}
+use Rattle.rules.specs.Classes.{B, isUnknown, isParagraphEnd}
+use Rattle.rules.specs.Paragraph.{isPair, P1}
+use Rattle.rules.specs.Refusals.{longestParagraph, Check, sound, refuse, refuseWhere, checkSome, walk, checksOfCut}
 use Rattle.rules.specs.Jobs.{Answer, accepted, refused, answered, cutAnswer, cutPart}
 use Rattle.laws.proofs.Lists.{drop-next}
+use Rattle.laws.proofs.Passes.{by-test}
+use Rattle.rules.proofs.PairLaws.{no-pair, pair-second}
 use Rattle.melvorash.specs.Answers.{partLength}
 
 -- ---- the definitions' equations
-walk-one : (room at c : ℕ) (cs : List ℕ) → walk (suc room) at (c ∷ cs) ≡ (if isUnknown c then refuse 2 at else if isParagraphEnd c then sound else walk room (suc at) cs)
+walk-one : (room at c : ℕ) (cs : List ℕ) → walk (suc room) at (c ∷ cs) ≡ (if isUnknown c then refuse 2 at else if isPair c cs then refuseWhere (eqb room 0) 3 else if isParagraphEnd c then sound else walk room (suc at) cs)
 unfolding walk
 walk-one room at c cs = refl
 
-P1-one : (c : ℕ) (cs : List ℕ) → P1 (c ∷ cs) ≡ (if isParagraphEnd c then c ∷ [] else c ∷ P1 cs)
+P1-one : (c : ℕ) (cs : List ℕ) → P1 (c ∷ cs) ≡ (if isPair c cs then c ∷ B ∷ [] else if isParagraphEnd c then c ∷ [] else c ∷ P1 cs)
 unfolding P1
 P1-one c cs = refl
 
@@ -76,26 +80,37 @@ module _ (limit : ℕ) (cs : List ℕ) (i : ℕ) (w : Walking limit cs i) where
       one-less : limit - i ≡ suc (limit - (i + 1))
       one-less = omega (arith, w .room, ne)
 
-      here : walk (limit - i) i (drop i cs) ≡ (if isUnknown (getD cs i 0) then refuse 2 i else if isParagraphEnd (getD cs i 0) then sound else walk (limit - (i + 1)) (i + 1) (drop (i + 1) cs))
+      here : walk (limit - i) i (drop i cs) ≡ (if isUnknown (getD cs i 0) then refuse 2 i else if isPair (getD cs i 0) (drop (i + 1) cs) then refuseWhere (eqb (limit - (i + 1)) 0) 3 else if isParagraphEnd (getD cs i 0) then sound else walk (limit - (i + 1)) (i + 1) (drop (i + 1) cs))
       here = rw (one-less, drop-next cs i h, walk-one) (rw add-one)
 
       pub cut-unknown : isUnknown (getD cs i 0) ≡ true → refused 2 i ≡ walked limit cs
       cut-unknown u = refusing 2 i (rw (here, u) at (w .checks))
 
       module _ (u : isUnknown (getD cs i 0) ≡ false) where
-        pub cut-end : isParagraphEnd (getD cs i 0) ≡ true → accepted (i + 1) ≡ walked limit cs
-        cut-end p =
-            settled {check = sound} (i + 1) (rw (here, u, p) at (w .checks))
-            (rw (drop-next cs i h, P1-one, p) at (w .paragraph))
+        module _ (pair : isPair (getD cs i 0) (drop (i + 1) cs) ≡ true) where
+          -- its B would be one position too many
+          pub cut-pair-long : i + 1 ≡ limit → refused 3 0 ≡ walked limit cs
+          cut-pair-long e = refusing 3 0 (rw (here, u, pair, eq-eqb (limit - (i + 1)) 0 (omega arith)) at (w .checks))
+
+          pub cut-pair : (i + 1 ≡ limit → ⊥) → accepted (i + 2) ≡ walked limit cs
+          cut-pair more =
+              settled {check = sound} (i + 2) (rw (here, u, pair, ne-eqb (limit - (i + 1)) 0 (λ e. omega (arith, w .room, ne, more))) at (w .checks))
+              (rw (drop-next cs i h, P1-one, pair) at (w .paragraph))
+
+        pub cut-end : isPair (getD cs i 0) (drop (i + 1) cs) ≡ false → isParagraphEnd (getD cs i 0) ≡ true → accepted (i + 1) ≡ walked limit cs
+        cut-end alone p =
+            settled {check = sound} (i + 1) (rw (here, u, alone, p) at (w .checks))
+            (rw (drop-next cs i h, P1-one, alone, p) at (w .paragraph))
 
         pub cut-on : isParagraphEnd (getD cs i 0) ≡ false → Walking limit cs (i + 1)
         cut-on p =
-            let e : i + suc (length (P1 (drop (i + 1) cs))) ≡ length (P1 cs) = rw (drop-next cs i h, P1-one, p) at (w .paragraph) in
+            let alone : isPair (getD cs i 0) (drop (i + 1) cs) ≡ false = no-pair (getD cs i 0) (drop (i + 1) cs) p in
+            let e : i + suc (length (P1 (drop (i + 1) cs))) ≡ length (P1 cs) = rw (drop-next cs i h, P1-one, alone, p) at (w .paragraph) in
             record {
               within = omega arith;
               room = omega (arith, w .room, ne);
               some = w .some;
-              checks = rw (here, u, p) at (w .checks);
+              checks = rw (here, u, alone, p) at (w .checks);
               paragraph = omega arith;
             }
 
@@ -103,20 +118,17 @@ module _ (limit : ℕ) (cs : List ℕ) (i : ℕ) (w : Walking limit cs i) where
 P1-part : (cs : List ℕ) → take (length (P1 cs)) cs ≡ P1 cs
 unfolding P1
 P1-part [] = refl
-P1-part (c ∷ cs) = by (isParagraphEnd c) refl (P1-part cs)
-  where
-    by : (b : Bool) → isParagraphEnd c ≡ b → take (length (P1 cs)) cs ≡ P1 cs → take (length (P1 (c ∷ cs))) (c ∷ cs) ≡ P1 (c ∷ cs)
-    by true e h = rw e
-    by false e h = rw e (ap (λ (xs : List ℕ). c ∷ xs) h)
+P1-part (c ∷ cs) =
+    by-test (isPair c cs)
+    (λ pair. rw pair (ap (λ (xs : List ℕ). c ∷ xs) (pair-second c cs pair)))
+    (λ alone. rw alone (by-test (isParagraphEnd c) (λ e. rw e) (λ e. rw e (ap (λ (xs : List ℕ). c ∷ xs) (P1-part cs)))))
 
+-- a part of a list is no longer than the list
 P1-within : (cs : List ℕ) → length (P1 cs) ≤ length cs
-unfolding P1
-P1-within [] = omega arith
-P1-within (c ∷ cs) = by (isParagraphEnd c) refl (P1-within cs)
-  where
-    by : (b : Bool) → isParagraphEnd c ≡ b → length (P1 cs) ≤ length cs → length (P1 (c ∷ cs)) ≤ length (c ∷ cs)
-    by true e h = rw e (omega arith)
-    by false e h = rw e (omega arith)
+P1-within cs =
+    let e : length (take (length (P1 cs)) cs) ≡ length (P1 cs) = ap length (P1-part cs) in
+    let m : length (take (length (P1 cs)) cs) ≡ min (length (P1 cs)) (length cs) = length-take (length (P1 cs)) cs in
+    omega arith
 
 pub record Part (cs : List ℕ) (n : ℕ) : Type 0 where
   pub within : n ≤ length cs

@@ -1,7 +1,6 @@
 -- Laws and theorems on the jobs that belong to no one function.
 pub mod AnswerLaws
 pub mod CutLaws
-pub mod CutTheorems
 pub mod OrderLaws
 pub mod LevelTheorems
 pub mod Determined

@@ -9,7 +9,7 @@ ghost use mathlib.Core.Path.{_≡_};
 ghost use Rattle.rules.specs.Jobs.{cutAnswer, cutPart, baseAnswer};
 ghost use Rattle.melvorash.specs.Answers.{cutPage, basePage, partLength};
 
-// The paragraph's length. At most 4,096 positions are looked at, and none after the paragraph.
+// The paragraph's length. At most 4,096 positions are looked at, and none after the paragraph but for a B after a CR.
 pub fn cut(classes: &[u8]) -> CutAnswer
     ensures { λ r. ⌜ cutPage r ≡ cutAnswer (now (classes .entry)) ⌝ }
 {
@@ -26,6 +26,12 @@ pub fn cut(classes: &[u8]) -> CutAnswer
             return CutAnswer::Refused(refusals::at(UNKNOWN_CLASS, i));
         }
         if classes::is_paragraph_end(class) {
+            if paragraph::is_pair(classes, i) {
+                if i + 1 == classes::LONGEST {
+                    return CutAnswer::Refused(refusals::whole(TOO_LONG));
+                }
+                return CutAnswer::Length(i + 2);
+            }
             return CutAnswer::Length(i + 1);
         }
         i += 1;

@@ -1,10 +1,25 @@
-// The base level of a paragraph: rules P2 and P3, and the request that may stand in their place.
+// The pair that P1 does not cut apart; and the base level of a paragraph: rules P2 and P3, and the request that may stand
+// in their place.
 ghost use mathlib.Core.Path.{_≡_};
-ghost use Rattle.rules.specs.Paragraph.{P2, P3, baseByText, baseOf};
+ghost use Prim.Native.Nat.{_+_};
+ghost use lib.ListN.{getD, drop};
+ghost use Rattle.rules.specs.Paragraph.{isPair, P2, P3, baseByText, baseOf};
 ghost use Rattle.paragraph.specs.Found.{foundOf};
 
 // The request that leaves the base to the text.
 pub const BY_TEXT: u8 = 2;
+
+// Whether a CR stands at a position and a B directly after it. Behind the classes nothing stands.
+pub fn is_pair(classes: &[u8], at: usize) -> bool
+    ensures { λ r. ⌜ r ≡ isPair (getD (now (classes .entry)) at 0) (drop (at + 1) (now (classes .entry))) ⌝ }
+{
+    if at < classes.len() {
+        if classes[at] == classes::CR {
+            return parts::element_or(classes, at + 1, classes::CR) == classes::B;
+        }
+    }
+    false
+}
 
 pub enum FirstStrong {
     Class(u8),

@@ -1,5 +1,8 @@
 -- Theorems about the definitions alone.
 pub mod LineLaws
+pub mod PairLaws
+pub mod CutTheorems
+pub mod PairTable
 pub mod EndLaws
 pub mod RefusalTable
 pub mod ToldLaws

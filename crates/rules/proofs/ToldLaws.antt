@@ -4,11 +4,12 @@ use native.Mathlib.Omega.{arith}
 use mathlib.Core.Path.{_≡_, refl}
 use mathlib.Core.Bool.{Bool, true, false, _||_, not}
 use mathlib.Core.List.{List, [], _∷_}
-use lib.Dec.{leb, ltb}
+use lib.Dec.{eqb, leb, ltb}
 use lib.ListN.{length}
 use Rattle.laws.specs.Choice.{if_then_else_}
 use Rattle.rules.specs.Classes.{isUnknown, isParagraphEnd}
-use Rattle.rules.specs.Refusals.{longestParagraph, Check, sound, refuse, _andThen_, refuseWhere, isEmpty, checkSome, checkLength, faultAt, firstFault, checkClasses, checkRequest, checkBase, checkLevelRoom, isBadLevel, firstBadLevel, checkLine, checkOrderRoom, endsRiseTo, checkEnds, checkMarkRoom, checksOfBase, checksOfLevels, checksOfOrder, checksOfLine, checksOfLines, checksOfMarks, walk, checksOfCut}
+use Rattle.rules.specs.Paragraph.{isPair}
+use Rattle.rules.specs.Refusals.{longestParagraph, Check, sound, refuse, _andThen_, refuseWhere, isEmpty, checkSome, checkLength, mayEnd, faultAt, firstFault, checkClasses, checkRequest, checkBase, checkLevelRoom, isBadLevel, firstBadLevel, checkLine, checkOrderRoom, endsRiseTo, checkEnds, checkMarkRoom, checksOfBase, checksOfLevels, checksOfOrder, checksOfLine, checksOfLines, checksOfMarks, walk, checksOfCut}
 
 -- ---- what holds of the number and the place of a refusal, whichever check finds it
 abbrev pub Told : (ℕ → ℕ → Type 0) → Check → Type 0
@@ -35,7 +36,7 @@ module _ (P : ℕ → ℕ → Type 0) where
   told-faults limit here at (c ∷ cs) h =
       let p = here at (omega arith) in
       told-then (faultAt at c cs) (firstFault (suc at) cs)
-      (told-if (isUnknown c) _ _ (p .0) (told-if (isParagraphEnd c) _ _ (told-if (isEmpty cs) _ _ tt (p .1)) tt))
+      (told-if (isUnknown c) _ _ (p .0) (told-if (isParagraphEnd c) _ _ (told-if (mayEnd c cs) _ _ tt (p .1)) tt))
       (λ _. told-faults limit here (suc at) cs (omega arith))
 
   told-level : (at : ℕ) (cs ls : List ℕ) → ((n : ℕ) → P 7 n) → Told P (firstBadLevel at cs ls)
@@ -49,7 +50,9 @@ module _ (P : ℕ → ℕ → Type 0) where
   told-walk left at [] two three = tt
   told-walk zero at (c ∷ cs) two three = three
   told-walk (suc left) at (c ∷ cs) two three =
-      told-if (isUnknown c) _ _ (two at) (told-if (isParagraphEnd c) _ _ tt (told-walk left (suc at) cs two three))
+      told-if (isUnknown c) _ _ (two at)
+      (told-if (isPair c cs) _ _ (told-where (eqb left 0) 3 three)
+      (told-if (isParagraphEnd c) _ _ tt (told-walk left (suc at) cs two three)))
 
 -- ---- no job refuses with the number 0, which stands for an accepted call where an answer is three numbers
 abbrev Above0 : ℕ → ℕ → Type 0

@@ -60,9 +60,13 @@ WS = 17
 abbrev pub ON : ℕ
 ON = 18
 
--- the classes are 0 to 18: above the highest, a number is no class
+-- the house's own class: a separator of paragraphs that forms one with a B directly after it
+abbrev pub CR : ℕ
+CR = 19
+
+-- the classes are 0 to 19: above the highest, a number is no class
 abbrev pub highestClass : ℕ
-highestClass = ON
+highestClass = CR
 
 -- a table by class has a place for each class, and behind them one for every other number
 abbrev pub lastPlace : ℕ
@@ -74,15 +78,15 @@ rowWidth = lastPlace + 1
 unfoldable pub isUnknown : ℕ → Bool
 isUnknown c = ltb highestClass c
 
--- B, the separator of paragraphs
+-- the separators of paragraphs: B and CR
 unfoldable pub isParagraphEnd : ℕ → Bool
-isParagraphEnd c = eqb c B
+isParagraphEnd c = eqb c B || eqb c CR
 
 -- the codes that open an embedding or an override
 unfoldable pub isOpening : ℕ → Bool
 isOpening c = eqb c LRE || eqb c LRO || eqb c RLE || eqb c RLO
 
--- X9: removed are the codes and BN, by their original class. All others are kept, B among them
+-- X9: removed are the codes and BN, by their original class. All others are kept, B and CR among them
 unfoldable pub isRemoved : ℕ → Bool
 isRemoved c = isOpening c || eqb c PDF || eqb c BN
 
@@ -90,11 +94,11 @@ isRemoved c = isOpening c || eqb c PDF || eqb c BN
 unfoldable pub isStrong : ℕ → Bool
 isStrong c = eqb c L || eqb c R || eqb c AL
 
--- neutral: B, S, WS and ON
+-- neutral: B, CR, S, WS and ON
 unfoldable pub isNeutral : ℕ → Bool
 isNeutral c = isParagraphEnd c || eqb c S || eqb c WS || eqb c ON
 
--- L1: S and B go back to the base level by themselves, WS before them or at the line's end
+-- L1: S, B and CR go back to the base level by themselves, WS before them or at the line's end
 unfoldable pub isSeparator : ℕ → Bool
 isSeparator c = eqb c S || isParagraphEnd c
 

@@ -1,4 +1,4 @@
--- Neutral types (B, S, WS, ON): rules N1 and N2.
+-- Neutral types (B, CR, S, WS, ON): rules N1 and N2.
 use Prim.Native.Nat.{ℕ}
 use mathlib.Core.Bool.{_||_}
 use mathlib.Core.List.{List, map}

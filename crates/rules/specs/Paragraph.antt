@@ -1,16 +1,22 @@
 -- Paragraphs and the base level: rules P1 to P3.
 use Prim.Native.Nat.{ℕ}
-use mathlib.Core.Bool.{_||_}
+use mathlib.Core.Bool.{Bool, false, _||_, _&&_}
 use mathlib.Core.List.{List, [], _∷_}
 use mathlib.Core.Option.{Option, none, some}
 use lib.Dec.{eqb}
 use Rattle.laws.specs.Choice.{if_then_else_}
-use Rattle.rules.specs.Classes.{R, AL, isParagraphEnd, isStrong}
+use Rattle.rules.specs.Classes.{R, AL, B, CR, isParagraphEnd, isStrong}
 
--- P1: the first paragraph ends after the first B, which it keeps, or at the end of the text
+-- a class, given what stands after it: whether it is a CR and a B follows it directly
+unfoldable pub isPair : ℕ → List ℕ → Bool
+isPair c [] = false
+isPair c (next ∷ cs) = eqb c CR && eqb next B
+
+-- P1: the first paragraph ends after the first B; or after a CR and its B; or after a CR that no B follows. It keeps what
+-- ends it. With none of these it ends with the text
 unfoldable pub P1 : List ℕ → List ℕ
 P1 [] = []
-P1 (c ∷ cs) = if isParagraphEnd c then c ∷ [] else c ∷ P1 cs
+P1 (c ∷ cs) = if isPair c cs then c ∷ B ∷ [] else if isParagraphEnd c then c ∷ [] else c ∷ P1 cs
 
 -- P2: the first strong class of the paragraph, wherever it is nested
 unfoldable pub P2 : List ℕ → Option ℕ

@@ -1,11 +1,12 @@
 -- The refusals: the number and the place of each, and the order of checks of each job.
 use Prim.Native.Nat.{ℕ, zero, suc, _-_}
-use mathlib.Core.Bool.{Bool, true, false, _||_, not}
+use mathlib.Core.Bool.{Bool, true, false, _||_, _&&_, not}
 use mathlib.Core.List.{List, [], _∷_}
 use lib.Dec.{eqb, leb, ltb}
 use lib.ListN.{length}
 use Rattle.laws.specs.Choice.{if_then_else_}
 use Rattle.rules.specs.Classes.{isUnknown, isRemoved, isParagraphEnd}
+use Rattle.rules.specs.Paragraph.{isPair}
 use Rattle.rules.specs.Explicit.{removedLevel}
 
 -- the longest paragraph, and the highest level that resolving can give
@@ -47,11 +48,15 @@ checkSome cs = refuseWhere (isEmpty cs) 1
 unfoldable pub checkLength : List ℕ → Check
 checkLength cs = refuseWhere (ltb longestParagraph (length cs)) 3
 
--- the fault at a position, given what stands after it: 2, an unknown class; 4, B before the last position
+-- B and CR may stand last, and CR before a last B
+unfoldable pub mayEnd : ℕ → List ℕ → Bool
+mayEnd c cs = isEmpty cs || (isPair c cs && eqb (length cs) 1)
+
+-- the fault at a position, given what stands after it: 2, an unknown class; 4, any other B or CR
 unfoldable pub faultAt : ℕ → ℕ → List ℕ → Check
 faultAt at c cs =
     if isUnknown c then refuse 2 at else
-    if isParagraphEnd c then (if isEmpty cs then sound else refuse 4 at) else sound
+    if isParagraphEnd c then (if mayEnd c cs then sound else refuse 4 at) else sound
 
 -- the first faulty position from the left, the first position being `at`
 unfoldable pub firstFault : ℕ → List ℕ → Check
@@ -126,13 +131,16 @@ checksOfLines cs levels base ends room =
 unfoldable pub checksOfMarks : List ℕ → ℕ → ℕ → Check
 checksOfMarks cs flags room = checkSome cs andThen checkLength cs andThen checkMarkRoom cs flags room
 
--- Cut's own: 1; then at most 4,096 positions are looked at: 2 where an unknown class comes before any B,
--- 3 where there is no B among them and more follow. `left` counts the positions that may still be looked at
+-- Cut's own: 1; then at most 4,096 positions are looked at: 2 where an unknown class comes before any B or CR, 3 where there
+-- is none of these among them and more follow, or where the last of them is a CR and its B would be one more. Beyond a CR
+-- nothing is asked but whether a B follows. `left` counts the positions that may still be looked at
 unfoldable pub walk : ℕ → ℕ → List ℕ → Check
 walk left at [] = sound
 walk zero at (c ∷ cs) = refuse 3 0
 walk (suc left) at (c ∷ cs) =
-    if isUnknown c then refuse 2 at else if isParagraphEnd c then sound else walk left (suc at) cs
+    if isUnknown c then refuse 2 at else
+    if isPair c cs then refuseWhere (eqb left 0) 3 else
+    if isParagraphEnd c then sound else walk left (suc at) cs
 
 unfoldable pub checksOfCut : List ℕ → Check
 checksOfCut cs = checkSome cs andThen walk longestParagraph 0 cs

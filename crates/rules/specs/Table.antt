@@ -30,12 +30,12 @@ pub record Row : Type 0 where
 abbrev byText : ℕ
 byText = 2
 
-abbrev removed : ℕ
+abbrev pub removed : ℕ
 removed = removedLevel
 
 -- a row of the page, and the base that its request gives: both jobs accept, Resolve with that base, Order with how many
 -- positions it ordered
-abbrev pageRow : List ℕ → ℕ → ℕ → List ℕ → List ℕ → Row
+abbrev pub pageRow : List ℕ → ℕ → ℕ → List ℕ → List ℕ → Row
 pageRow classes request base levels order =
     record {
       classes = classes;
@@ -62,7 +62,7 @@ table =
     []
 
 -- the row of the same classes and request with what the jobs answer and leave, in buffers lent with any content
-abbrev computed : Row → Row
+abbrev pub computed : Row → Row
 computed r =
     let cs = r .classes in
     let base = baseOf (r .request) cs in

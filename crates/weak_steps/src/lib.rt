@@ -115,6 +115,7 @@ const EARLY: [u8; ENTRIES] = [
     255,
     255,
     255,
+    255,
     // Whether it stays behind AL.
     255,
     255,
@@ -136,12 +137,14 @@ const EARLY: [u8; ENTRIES] = [
     255,
     255,
     255,
+    255,
     // What it becomes behind any other strong type.
     0,
     0,
     0,
     0,
     classes::R, // AL
+    0,
     0,
     0,
     0,
@@ -178,6 +181,7 @@ const EARLY: [u8; ENTRIES] = [
     0,
     0,
     0,
+    0,
     // Whether the strong type before stays, behind a type.
     0, // L
     255,
@@ -199,12 +203,14 @@ const EARLY: [u8; ENTRIES] = [
     255,
     255,
     255,
+    255,
     // What it becomes.
     classes::L, // L
     0,
     0,
     classes::R, // R
     classes::AL, // AL
+    0,
     0,
     0,
     0,
@@ -245,6 +251,7 @@ const LATE: [u8; ENTRIES] = [
     255,
     255,
     255,
+    255,
     // Whether it stays behind L.
     255,
     255,
@@ -259,6 +266,7 @@ const LATE: [u8; ENTRIES] = [
     0, // ET
     255,
     0, // CS
+    255,
     255,
     255,
     255,
@@ -287,6 +295,7 @@ const LATE: [u8; ENTRIES] = [
     0,
     0,
     0,
+    0,
     // What it becomes behind L.
     0,
     0,
@@ -301,6 +310,7 @@ const LATE: [u8; ENTRIES] = [
     classes::ON, // ET
     0,
     classes::ON, // CS
+    0,
     0,
     0,
     0,
@@ -329,11 +339,13 @@ const LATE: [u8; ENTRIES] = [
     255,
     255,
     255,
+    255,
     // What it becomes.
     classes::L, // L
     0,
     0,
     classes::R, // R
+    0,
     0,
     0,
     0,

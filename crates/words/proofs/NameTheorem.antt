@@ -3,9 +3,9 @@
 use Prim.Native.Nat.{ℕ}
 use mathlib.Core.Path.{_≡_, refl}
 use mathlib.Core.List.{[], _∷_, map}
-use Rattle.rules.specs.Classes.{L, LRE, LRO, R, AL, RLE, RLO, PDF, EN, ES, ET, AN, CS, NSM, BN, B, S, WS, ON}
+use Rattle.rules.specs.Classes.{L, LRE, LRO, R, AL, RLE, RLO, PDF, EN, ES, ET, AN, CS, NSM, BN, B, S, WS, ON, CR}
 use Rattle.words.specs.Words.{sameWord, placeAmong, classNames, classNamed}
 
-pub names-their-classes : map classNamed classNames ≡ L ∷ LRE ∷ LRO ∷ R ∷ AL ∷ RLE ∷ RLO ∷ PDF ∷ EN ∷ ES ∷ ET ∷ AN ∷ CS ∷ NSM ∷ BN ∷ B ∷ S ∷ WS ∷ ON ∷ []
+pub names-their-classes : map classNamed classNames ≡ L ∷ LRE ∷ LRO ∷ R ∷ AL ∷ RLE ∷ RLO ∷ PDF ∷ EN ∷ ES ∷ ET ∷ AN ∷ CS ∷ NSM ∷ BN ∷ B ∷ S ∷ WS ∷ ON ∷ CR ∷ []
 unfolding classNamed placeAmong sameWord
 names-their-classes = refl

@@ -84,6 +84,7 @@ classNames =
     (83 ∷ []) ∷  -- S
     (87 ∷ 83 ∷ []) ∷  -- WS
     (79 ∷ 78 ∷ []) ∷  -- ON
+    (67 ∷ 82 ∷ []) ∷  -- CR
     []
 
 -- an unknown name counts as class 255

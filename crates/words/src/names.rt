@@ -54,7 +54,7 @@ pub fn class_named(word: &[u8]) -> u8
     ensures { λ r. ⌜ r ≡ classNamed (now (word .entry)) ⌝ }
 {
     place_among(
-        b"L   LRE LRO R   AL  RLE RLO PDF EN  ES  ET  AN  CS  NSM BN  B   S   WS  ON  ",
+        b"L   LRE LRO R   AL  RLE RLO PDF EN  ES  ET  AN  CS  NSM BN  B   S   WS  ON  CR  ",
         UNKNOWN_NAME,
         word,
     )

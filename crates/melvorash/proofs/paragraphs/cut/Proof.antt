@@ -5,7 +5,7 @@ use mathlib.Core.Path.{_∙_}
 use lib.ListN.{length}
 use Rattle.rules.specs.Refusals.{longestParagraph}
 use Rattle.laws.proofs.Tests.{known}
-use Rattle.melvorash.proofs.CutLaws.{cut-of, Walking, walk-begun, cut-none, cut-done, cut-long, cut-unknown, cut-end, cut-on}
+use Rattle.melvorash.proofs.CutLaws.{cut-of, Walking, walk-begun, cut-none, cut-done, cut-long, cut-unknown, cut-pair-long, cut-pair, cut-end, cut-on}
 use borrow.Author.Needs.{needs}
 use Rattle.melvorash.proofs.paragraphs.cut.Statement.{statement}
 use Rattle.melvorash.proofs.paragraphs.cut.Tie as tie
@@ -53,15 +53,48 @@ returns-3 c =
 is-paragraph-end-requires : tie.Need-is-paragraph-end-requires Inv-loop μ-loop
 is-paragraph-end-requires c κs = search needs
 
-add-t15 : tie.Need-add-t15 Inv-loop μ-loop
-add-t15 c = search needs
+
+is-pair-requires : tie.Need-is-pair-requires Inv-loop μ-loop
+is-pair-requires c κs = search needs
+
+add-if6 : tie.Need-add-if6 Inv-loop μ-loop
+add-if6 c = search needs
+
+whole-requires-3 : tie.Need-whole-requires-3 Inv-loop μ-loop
+whole-requires-3 c κs = search needs
 
 returns-4 : tie.Need-returns-4 Inv-loop μ-loop
 returns-4 c =
-    let at = c .before .before .before .before .before .before in
-    let w = at .before .loop .inv in
-    cut-end _ _ _ w (at .loop-test .taken) (c .before .before .before .before .before .if2 .left) (known (c .before .before .before .is-unknown .ensures) (c .before .before .if3 .left))
-    (known (c .before .is-paragraph-end .ensures) (c .if4 .taken))
+    let pair = c .before .before .before in
+    let at = pair .before .before .before .before .before .before in
+    let w = at .before .before .loop .inv in
+    rw (c .whole3 .ensures)
+    (cut-pair-long _ _ _ w (at .before .loop-test .taken) (at .if2 .left) (known (pair .before .before .before .before .is-unknown .ensures) (pair .before .before .before .if3 .left))
+    (known (pair .is-pair .ensures) (c .before .before .if5 .taken)) (c .before .if6 .taken)
+    ∙ cut-of _ (w .some))
+
+add-t16 : tie.Need-add-t16 Inv-loop μ-loop
+add-t16 c = search needs
+
+returns-5 : tie.Need-returns-5 Inv-loop μ-loop
+returns-5 c =
+    let pair = c .before .before in
+    let at = pair .before .before .before .before .before .before in
+    let w = at .before .before .loop .inv in
+    cut-pair _ _ _ w (at .before .loop-test .taken) (at .if2 .left) (known (pair .before .before .before .before .is-unknown .ensures) (pair .before .before .before .if3 .left))
+    (known (pair .is-pair .ensures) (c .before .if5 .taken)) (c .if6 .left)
+    ∙ cut-of _ (w .some)
+
+add-t19 : tie.Need-add-t19 Inv-loop μ-loop
+add-t19 c = search needs
+
+returns-6 : tie.Need-returns-6 Inv-loop μ-loop
+returns-6 c =
+    let pair = c .before in
+    let at = pair .before .before .before .before .before .before in
+    let w = at .before .before .loop .inv in
+    cut-end _ _ _ w (at .before .loop-test .taken) (at .if2 .left) (known (pair .before .before .before .before .is-unknown .ensures) (pair .before .before .before .if3 .left))
+    (known (pair .is-pair .ensures) (c .if5 .left)) (known (pair .before .before .is-paragraph-end .ensures) (pair .before .if4 .taken))
     ∙ cut-of _ (w .some)
 
 add-i : tie.Need-add-i Inv-loop μ-loop
@@ -75,8 +108,8 @@ loop-again c =
     cut-on _ _ _ (c .before .before .before .before .before .before .before .loop .inv) (c .before .before .before .before .before .before .loop-test .taken) (c .before .before .before .before .before .if2 .left) (known (c .before .before .before .is-unknown .ensures) (c .before .before .if3 .left))
     (known (c .before .is-paragraph-end .ensures) (c .if4 .left))
 
-returns-5 : tie.Need-returns-5 Inv-loop μ-loop
-returns-5 c =
+returns-7 : tie.Need-returns-7 Inv-loop μ-loop
+returns-7 c =
     let w = c .before .loop .inv in
     cut-done _ _ _ w (c .loop-test .left) ∙ cut-of _ (w .some)
 
@@ -96,9 +129,15 @@ cut-spec =
     at-requires
     returns-3
     is-paragraph-end-requires
-    add-t15
+    is-pair-requires
+    add-if6
+    whole-requires-3
     returns-4
+    add-t16
+    returns-5
+    add-t19
+    returns-6
     add-i
     loop-less
     loop-again
-    returns-5)
+    returns-7)
