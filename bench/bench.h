@@ -22,7 +22,7 @@ typedef struct {
 
 extern const library melvorash, fribidi, icu;
 
-enum { WORKLOADS = 9, FIRST_GROWTH = 6, MARKED = 5 };
+enum { WORKLOADS = 10, PAIRED = 6, FIRST_GROWTH = 7, MARKED = 5 };
 void make_workloads(workload *made);
 
 /* Texts for the drawing order: there the classes are combining classes. */

@@ -3,11 +3,15 @@
 
 #include <fribidi.h>
 
+/*
+ * CR, the last, is B as well. fribidi takes what it is lent as one paragraph and puts every B in it at the
+ * base level, so the two are what the pair is.
+ */
 static const FriBidiCharType type_of[] = {
     FRIBIDI_TYPE_LTR, FRIBIDI_TYPE_LRE, FRIBIDI_TYPE_LRO, FRIBIDI_TYPE_RTL, FRIBIDI_TYPE_AL,
     FRIBIDI_TYPE_RLE, FRIBIDI_TYPE_RLO, FRIBIDI_TYPE_PDF, FRIBIDI_TYPE_EN,  FRIBIDI_TYPE_ES,
     FRIBIDI_TYPE_ET,  FRIBIDI_TYPE_AN,  FRIBIDI_TYPE_CS,  FRIBIDI_TYPE_NSM, FRIBIDI_TYPE_BN,
-    FRIBIDI_TYPE_BS,  FRIBIDI_TYPE_SS,  FRIBIDI_TYPE_WS,  FRIBIDI_TYPE_ON,
+    FRIBIDI_TYPE_BS,  FRIBIDI_TYPE_SS,  FRIBIDI_TYPE_WS,  FRIBIDI_TYPE_ON,  FRIBIDI_TYPE_BS,
 };
 
 static FriBidiCharType *types;

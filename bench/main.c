@@ -108,10 +108,17 @@ static melvorash_answer explicit_levels(const workload *w, uint8_t *levels)
     return melvorash_explicit(w->classes, positions_of(w), MELVORASH_BY_TEXT, levels, MELVORASH_LONGEST);
 }
 
+/* Every paragraph of the text, the next from where the last one ends. */
 static melvorash_answer cut(const workload *w, uint8_t *levels)
 {
+    melvorash_answer paragraph;
+    size_t start = 0, count = positions_of(w);
     (void)levels;
-    return melvorash_cut(w->classes, positions_of(w));
+    do {
+        paragraph = melvorash_cut(w->classes + start, count - start);
+        start += paragraph.value;
+    } while (paragraph.value != 0 && start < count);
+    return paragraph;
 }
 
 /* Refused with 6, the last that Resolve checks. */
@@ -155,6 +162,7 @@ int main(void)
     for (int i = 1; i < 3; i++)
         measure_alone("Explicit", explicit_levels, &made[i]);
     measure_alone("Cut", cut, &made[1]);
+    measure_alone("Cut", cut, &made[PAIRED]);
     measure_alone("a refusal", refusal, &made[1]);
     for (int i = 0; i < MARKED; i++)
         measure_alone("Marks", marks, &marked[i]);

@@ -3,11 +3,13 @@
 
 #include <stdio.h>
 #include <stdlib.h>
+#include <string.h>
 
 enum {
     L = MELVORASH_L, R = MELVORASH_R, AL = MELVORASH_AL, RLE = MELVORASH_RLE, LRE = MELVORASH_LRE,
     PDF = MELVORASH_PDF, EN = MELVORASH_EN, ES = MELVORASH_ES, ET = MELVORASH_ET, AN = MELVORASH_AN,
-    CS = MELVORASH_CS, NSM = MELVORASH_NSM, WS = MELVORASH_WS, ON = MELVORASH_ON,
+    CS = MELVORASH_CS, NSM = MELVORASH_NSM, B = MELVORASH_B, WS = MELVORASH_WS, ON = MELVORASH_ON,
+    CR = MELVORASH_CR,
     LONGEST = MELVORASH_LONGEST, LABELS = 256, DEEPEST = 61
 };
 
@@ -85,6 +87,21 @@ static workload labels(void)
     return w;
 }
 
+/* The same labels, each ended by CR and B. */
+static workload paired(const workload *labels)
+{
+    workload w = empty("labels, then CR B", LABELS, positions_of(labels) + 2 * LABELS);
+    for (size_t i = 0; i < LABELS; i++) {
+        size_t length = labels->starts[i + 1] - labels->starts[i];
+        uint8_t *classes = w.classes + w.starts[i];
+        memcpy(classes, labels->classes + labels->starts[i], length);
+        classes[length] = CR;
+        classes[length + 1] = B;
+        w.starts[i + 1] = w.starts[i] + length + 2;
+    }
+    return w;
+}
+
 static workload words(const char *name, size_t length)
 {
     workload w = empty(name, 1, length);
@@ -155,6 +172,7 @@ void make_workloads(workload *made)
     made[3] = all("all L", L);
     made[4] = all("all blanks", WS);
     made[5] = ended_by_blanks();
+    made[PAIRED] = paired(&made[0]);
     made[FIRST_GROWTH] = words("mixed, 64", 64);
     made[FIRST_GROWTH + 1] = words("mixed, 256", 256);
     made[FIRST_GROWTH + 2] = words("mixed, 1,024", 1024);

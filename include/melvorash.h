@@ -14,7 +14,7 @@
  *
  * There is no global state: calls may run at the same time on different buffers, and may share a buffer
  * that all of them only read. Nothing is allocated on the heap, and a call takes less than 10 KiB of stack
- * (8,320 bytes were measured, for an order of 4,096 positions with levels from 1 to 62).
+ * (8,368 bytes were measured, for the orders of all lines of 4,096 positions with levels from 1 to 62).
  */
 #ifndef MELVORASH_H
 #define MELVORASH_H
@@ -26,7 +26,11 @@
 extern "C" {
 #endif
 
-/* The classes: one byte for each position of a paragraph. */
+/*
+ * The classes: one byte for each position of a paragraph. CR is a class of the house. It behaves as B in
+ * every rule, but where a B follows it directly the two end one paragraph, both at the base level. B and CR
+ * are kept, and a line may end between the two.
+ */
 #define MELVORASH_L 0
 #define MELVORASH_LRE 1
 #define MELVORASH_LRO 2
@@ -46,6 +50,7 @@ extern "C" {
 #define MELVORASH_S 16
 #define MELVORASH_WS 17
 #define MELVORASH_ON 18
+#define MELVORASH_CR 19
 
 /* Which base level is asked for; by the text, the first L, R or AL decides. */
 #define MELVORASH_LEFT_TO_RIGHT 0
@@ -66,15 +71,17 @@ extern "C" {
  * Refusals. A call that refuses has altered no buffer. Where several apply, the first in this order is
  * given: 1, 3, then 2 or 4 at the first faulty position, then 5, 6, 7, 8 or 10, 9. melvorash_marks gives only
  * 1, 3 and 16, in this order. melvorash_cut gives 1, and then walks from the first position over at most
- * 4,096: 2 where an unknown class comes before any B, also where more than 4,096 classes are lent; a B among
- * them ends the paragraph, whatever follows; 3 where there is none among them and more follow.
+ * 4,096: 2 where an unknown class comes before any B or CR, also where more than 4,096 classes are lent; the
+ * first B or CR among them ends the paragraph, a CR together with a B directly after it, whatever follows; 3
+ * where there is none among them and more follow, or where the 4,096th is a CR and a B follows it.
  */
 enum melvorash_refusal {
     MELVORASH_ACCEPTED = 0,
     MELVORASH_NO_CLASSES = 1,      /* there are no classes */
-    MELVORASH_UNKNOWN_CLASS = 2,   /* a class is above 18; place: the first faulty position */
+    MELVORASH_UNKNOWN_CLASS = 2,   /* a class is above 19; place: the first faulty position */
     MELVORASH_TOO_LONG = 3,        /* there are more than 4,096 positions or characters */
-    MELVORASH_EARLY_SEPARATOR = 4, /* B stands before the last position; place: the first faulty position */
+    MELVORASH_EARLY_SEPARATOR = 4, /* B or CR stands before the last position, and is no CR that a last B
+                                      follows directly; place: the first faulty position */
     MELVORASH_BAD_BASE = 5,        /* the base request is above 2, or the base of an order above 1 */
     MELVORASH_SHORT_LEVELS = 6,    /* the level buffer has fewer positions than the paragraph */
     MELVORASH_BAD_LEVEL = 7,       /* a lent level is not 0 to 62 on a kept position, or not 255 on a removed
@@ -98,7 +105,10 @@ typedef struct melvorash_answer {
     size_t value;
 } melvorash_answer;
 
-/* The length of the first paragraph: it ends after the first B, or where the classes end. */
+/*
+ * The length of the first paragraph. It ends after the first B or CR, or where the classes end; where a B
+ * follows the CR directly it ends after that B. Behind a CR only this is looked at, whether the next is B.
+ */
 melvorash_answer melvorash_cut(const uint8_t *classes, size_t class_count);
 
 /* The base level of one paragraph by its text, 0 or 1. */

@@ -12,7 +12,7 @@ enum {
     L = MELVORASH_L, LRE = MELVORASH_LRE, LRO = MELVORASH_LRO, R = MELVORASH_R, AL = MELVORASH_AL,
     RLE = MELVORASH_RLE, RLO = MELVORASH_RLO, PDF = MELVORASH_PDF, EN = MELVORASH_EN, ES = MELVORASH_ES,
     ET = MELVORASH_ET, AN = MELVORASH_AN, CS = MELVORASH_CS, NSM = MELVORASH_NSM, BN = MELVORASH_BN,
-    B = MELVORASH_B, S = MELVORASH_S, WS = MELVORASH_WS, ON = MELVORASH_ON,
+    B = MELVORASH_B, S = MELVORASH_S, WS = MELVORASH_WS, ON = MELVORASH_ON, CR = MELVORASH_CR,
     CLASSES, /* the first number that is no class */
     X = MELVORASH_REMOVED,
     TEXT = MELVORASH_BY_TEXT,
@@ -169,6 +169,20 @@ static const row rows[] = {
     {"R ES AN ON: no row of the page", BYTES(R, ES, AN, ON), TEXT, 1, BYTES(1, 1, 2, 1), PLACES(3, 2, 1, 0)},
 };
 
+/* ---- the same for CR, which that table does not have: with its B and without one */
+static const row cr_rows[] = {
+    {"R WS CR B at 0", BYTES(R, WS, CR, B), 0, 0, BYTES(1, 0, 0, 0), PLACES(0, 1, 2, 3)},
+    {"R WS CR B at 1", BYTES(R, WS, CR, B), 1, 1, BYTES(1, 1, 1, 1), PLACES(3, 2, 1, 0)},
+    {"R WS CR at 0", BYTES(R, WS, CR), 0, 0, BYTES(1, 0, 0), PLACES(0, 1, 2)},
+    {"L WS CR at 1", BYTES(L, WS, CR), 1, 1, BYTES(2, 1, 1), PLACES(2, 1, 0)},
+    {"EN CR B by the text", BYTES(EN, CR, B), TEXT, 0, BYTES(0, 0, 0), PLACES(0, 1, 2)},
+    {"RLO L CR B at 0", BYTES(RLO, L, CR, B), 0, 0, BYTES(X, 1, 0, 0), PLACES(1, 2, 3)},
+    {"RLO L CR B at 1", BYTES(RLO, L, CR, B), 1, 1, BYTES(X, 3, 1, 1), PLACES(3, 2, 1)},
+    {"LRO R CR at 1", BYTES(LRO, R, CR), 1, 1, BYTES(X, 2, 1), PLACES(2, 1)},
+    {"CR B", BYTES(CR, B), 1, 1, BYTES(1, 1), PLACES(1, 0)},
+    {"CR", BYTES(CR), TEXT, 0, BYTES(0), PLACES(0)},
+};
+
 /* A row goes through Cut, Resolve and both forms of Order, with buffers that are longer than they need be. */
 static void try_row(const row *r)
 {
@@ -188,7 +202,16 @@ static void try_row(const row *r)
 static const example accepted[] = {
     {.name = "L B R", .functions = CUT, .classes = BYTES(L, B, R), .wanted = {0, 0, 2}},
     {.name = "B and an unknown class after it", .functions = CUT, .classes = BYTES(B, CLASSES), .wanted = {0, 0, 1}},
+    {.name = "CR B R", .functions = CUT, .classes = BYTES(CR, B, R), .wanted = {0, 0, 2}},
+    {.name = "L CR B B", .functions = CUT, .classes = BYTES(L, CR, B, B), .wanted = {0, 0, 3}},
+    {.name = "L CR L", .functions = CUT, .classes = BYTES(L, CR, L), .wanted = {0, 0, 2}},
+    {.name = "CR CR B", .functions = CUT, .classes = BYTES(CR, CR, B), .wanted = {0, 0, 1}},
+    {.name = "CR BN B", .functions = CUT, .classes = BYTES(CR, BN, B), .wanted = {0, 0, 1}},
+    {.name = "B CR B", .functions = CUT, .classes = BYTES(B, CR, B), .wanted = {0, 0, 1}},
+    {.name = "CR and an unknown class after it", .functions = CUT, .classes = BYTES(CR, CLASSES), .wanted = {0, 0, 1}},
+    {.name = "CR B and an unknown class", .functions = CUT, .classes = BYTES(CR, B, CLASSES), .wanted = {0, 0, 2}},
     {.name = "WS EN", .functions = BASE, .classes = BYTES(WS, EN), .wanted = {0, 0, 0}},
+    {.name = "AL CR B", .functions = BASE, .classes = BYTES(AL, CR, B), .wanted = {0, 0, 1}},
     {.name = "LRE AL B", .functions = BASE, .classes = BYTES(LRE, AL, B), .wanted = {0, 0, 1}},
     {.name = "RLE L PDF R", .functions = EXPLICIT, .classes = BYTES(RLE, L, PDF, R), .room = 6,
      .wanted_levels = BYTES(X, 1, X, 0)},
@@ -201,14 +224,50 @@ static const example accepted[] = {
     {.name = "R WS R, both lines", .functions = ORDER_LINES, .classes = BYTES(R, WS, R),
      .levels = BYTES(1, 1, 1), .ends = PLACES(2, 3), .room = 3, .wanted = {0, 0, 3},
      .wanted_order = PLACES(0, 1, 2)},
+    {.name = "RLO L CR B at 0", .functions = EXPLICIT, .classes = BYTES(RLO, L, CR, B), .room = 5,
+     .wanted_levels = BYTES(X, 1, 0, 0)},
+    {.name = "LRO R CR at 1", .functions = EXPLICIT, .classes = BYTES(LRO, R, CR), .base = 1, .room = 4,
+     .wanted = {0, 0, 1}, .wanted_levels = BYTES(X, 2, 1)},
+    {.name = "R WS CR B at 0, a line up to B", .functions = ORDER_LINE, .classes = BYTES(R, WS, CR, B),
+     .levels = BYTES(1, 0, 0, 0), .to = 3, .room = 4, .wanted = {0, 0, 3}, .wanted_order = PLACES(0, 1, 2)},
+    {.name = "R WS CR B at 0, B alone", .functions = ORDER_LINE, .classes = BYTES(R, WS, CR, B),
+     .levels = BYTES(1, 0, 0, 0), .from = 3, .to = 4, .room = 4, .wanted = {0, 0, 1}, .wanted_order = PLACES(3)},
+    {.name = "R WS CR B at 0, both lines", .functions = ORDER_LINES, .classes = BYTES(R, WS, CR, B),
+     .levels = BYTES(1, 0, 0, 0), .ends = PLACES(3, 4), .room = 5, .wanted = {0, 0, 4},
+     .wanted_order = PLACES(0, 1, 2, 3)},
+    {.name = "R WS CR B at 1, both lines", .functions = ORDER_LINES, .classes = BYTES(R, WS, CR, B), .base = 1,
+     .levels = BYTES(1, 1, 1, 1), .ends = PLACES(3, 4), .room = 5, .wanted = {0, 0, 4},
+     .wanted_order = PLACES(2, 1, 0, 3)},
+    /* levels that Resolve does not give, so that the order shows what the line puts back to the base */
+    {.name = "R WS CR B, all at 1", .functions = ORDER, .classes = BYTES(R, WS, CR, B), .levels = BYTES(1, 1, 1, 1),
+     .to = 4, .ends = PLACES(4), .room = 4, .wanted = {0, 0, 4}, .wanted_order = PLACES(0, 1, 2, 3)},
+    {.name = "R WS CR B, all at 1, a line up to B", .functions = ORDER_LINE, .classes = BYTES(R, WS, CR, B),
+     .levels = BYTES(1, 1, 1, 1), .to = 3, .room = 4, .wanted = {0, 0, 3}, .wanted_order = PLACES(0, 1, 2)},
+    {.name = "R WS BN CR, all at 1", .functions = ORDER, .classes = BYTES(R, WS, BN, CR), .levels = BYTES(1, 1, X, 1),
+     .to = 4, .ends = PLACES(4), .room = 4, .wanted = {0, 0, 3}, .wanted_order = PLACES(0, 1, 3)},
+    {.name = "R CR, at 2 and 3", .functions = ORDER, .classes = BYTES(R, CR), .base = 1, .levels = BYTES(2, 3),
+     .to = 2, .ends = PLACES(2), .room = 4, .wanted = {0, 0, 2}, .wanted_order = PLACES(1, 0)},
 };
 
 /* ---- bad input, most of it with a second fault that is not the one to be given */
 static const example refused[] = {
     {.name = "no classes", .functions = ALL, .base = 3, .wanted = {1, 0, 0}},
-    {.name = "L 19", .functions = ALL, .classes = BYTES(L, CLASSES), .base = 3, .wanted = {2, 1, 0}},
+    {.name = "L 20", .functions = ALL, .classes = BYTES(L, CLASSES), .base = 3, .wanted = {2, 1, 0}},
+    {.name = "20 CR B", .functions = ALL, .classes = BYTES(CLASSES, CR, B), .base = 3, .wanted = {2, 0, 0}},
     {.name = "L L 255 B L", .functions = ALL, .classes = BYTES(L, L, 255, B, L), .wanted = {2, 2, 0}},
-    {.name = "L B 19", .functions = CHECKED, .classes = BYTES(L, B, CLASSES), .base = 3, .wanted = {4, 1, 0}},
+    {.name = "L B 20", .functions = CHECKED, .classes = BYTES(L, B, CLASSES), .base = 3, .wanted = {4, 1, 0}},
+    {.name = "L CR 20", .functions = CHECKED, .classes = BYTES(L, CR, CLASSES), .base = 3, .wanted = {4, 1, 0}},
+    {.name = "L CR L", .functions = CHECKED, .classes = BYTES(L, CR, L), .base = 3, .wanted = {4, 1, 0}},
+    {.name = "CR B L", .functions = CHECKED, .classes = BYTES(CR, B, L), .base = 3, .wanted = {4, 0, 0}},
+    {.name = "L CR B B", .functions = CHECKED, .classes = BYTES(L, CR, B, B), .base = 3, .wanted = {4, 1, 0}},
+    {.name = "CR CR B", .functions = CHECKED, .classes = BYTES(CR, CR, B), .base = 3, .wanted = {4, 0, 0}},
+    {.name = "CR BN B", .functions = CHECKED, .classes = BYTES(CR, BN, B), .base = 3, .wanted = {4, 0, 0}},
+    {.name = "L B CR", .functions = CHECKED, .classes = BYTES(L, B, CR), .base = 3, .wanted = {4, 1, 0}},
+    {.name = "L B CR B", .functions = CHECKED, .classes = BYTES(L, B, CR, B), .base = 3, .wanted = {4, 1, 0}},
+    {.name = "CR B, request 3", .functions = LEVELS, .classes = BYTES(CR, B), .base = 3, .wanted = {5, 0, 0}},
+    {.name = "CR B, room for 1", .functions = LEVELS, .classes = BYTES(CR, B), .room = 1, .wanted = {6, 0, 0}},
+    {.name = "CR B, CR at 255", .functions = ORDER, .classes = BYTES(CR, B), .levels = BYTES(X, 0),
+     .wanted = {7, 0, 0}},
     {.name = "request 3, no room", .functions = LEVELS, .classes = BYTES(L, R), .base = 3, .wanted = {5, 0, 0}},
     {.name = "room for 1 of 2", .functions = LEVELS, .classes = BYTES(L, R), .room = 1, .wanted = {6, 0, 0}},
     {.name = "base 2, one level", .functions = ORDER, .classes = BYTES(L, R), .base = 2, .levels = BYTES(0),
@@ -336,9 +395,51 @@ static void try_longest(void)
         {.name = "4096 L", .functions = ORDER, .classes = longest, .levels = longest, .to = LONGEST,
          .ends = {&end, 1}, .room = LONGEST, .wanted = {0, 0, LONGEST}, .wanted_order = whole},
         {.name = "4097 L", .functions = ALL, .classes = longer, .base = 3, .wanted = {3, 0, 0}},
-        {.name = "4096 L 19", .functions = ALL, .classes = {unknown_last, LONGEST + 1}, .wanted = {3, 0, 0}},
+        {.name = "4096 L 20", .functions = ALL, .classes = {unknown_last, LONGEST + 1}, .wanted = {3, 0, 0}},
     };
     TRY_ALL(examples);
+}
+
+/* ---- CR as the 4,096th, and what may follow it; then as the one before, with its B the 4,096th */
+static void try_longest_cr(void)
+{
+    static uint8_t zeros[LONGEST], then_l[LONGEST + 1], then_unknown[LONGEST + 1], then_cr[LONGEST + 1];
+    static uint8_t then_b[LONGEST + 1], paired[LONGEST + 1];
+    static uint16_t counted[LONGEST];
+    static const uint16_t end = LONGEST;
+    for (int i = 0; i < LONGEST; i++)
+        counted[i] = (uint16_t)i;
+    then_l[LONGEST - 1] = then_unknown[LONGEST - 1] = then_cr[LONGEST - 1] = then_b[LONGEST - 1] = CR;
+    then_unknown[LONGEST] = CLASSES;
+    then_cr[LONGEST] = CR;
+    then_b[LONGEST] = B;
+    paired[LONGEST - 2] = CR;
+    paired[LONGEST - 1] = B;
+    const bytes levels = {zeros, LONGEST}, longest = {paired, LONGEST};
+    const example examples[] = {
+        {.name = "4095 L CR", .functions = CUT, .classes = {then_l, LONGEST}, .wanted = {0, 0, LONGEST}},
+        {.name = "4095 L CR L", .functions = CUT, .classes = {then_l, LONGEST + 1}, .wanted = {0, 0, LONGEST}},
+        {.name = "4095 L CR 20", .functions = CUT, .classes = {then_unknown, LONGEST + 1}, .wanted = {0, 0, LONGEST}},
+        {.name = "4095 L CR CR", .functions = CUT, .classes = {then_cr, LONGEST + 1}, .wanted = {0, 0, LONGEST}},
+        {.name = "4095 L CR B", .functions = ALL, .classes = {then_b, LONGEST + 1}, .base = 3, .wanted = {3, 0, 0}},
+        {.name = "4095 L CR 20", .functions = CHECKED, .classes = {then_unknown, LONGEST + 1}, .base = 3,
+         .wanted = {3, 0, 0}},
+        {.name = "4094 L CR B L", .functions = CUT, .classes = {paired, LONGEST + 1}, .wanted = {0, 0, LONGEST}},
+        {.name = "4094 L CR B", .functions = CUT, .classes = longest, .wanted = {0, 0, LONGEST}},
+        {.name = "4094 L CR B", .functions = BASE, .classes = longest},
+        {.name = "4094 L CR B", .functions = LEVELS, .classes = longest, .room = LONGEST, .wanted_levels = levels},
+        {.name = "4094 L CR B", .functions = ORDER, .classes = longest, .levels = levels, .to = LONGEST,
+         .ends = {&end, 1}, .room = LONGEST, .wanted = {0, 0, LONGEST}, .wanted_order = {counted, LONGEST}},
+    };
+    TRY_ALL(examples);
+}
+
+/* ---- a CR that is lent without the B behind it in memory: the paragraph ends with what is lent */
+static void try_lent_alone(void)
+{
+    static const uint8_t classes[] = {L, CR, B};
+    const melvorash_answer two = {0, 0, 2};
+    judge("cut", "L CR, a B behind what is lent", melvorash_cut(classes, 2), two, 1);
 }
 
 /* ---- a null pointer with count 0 is an empty buffer */
@@ -369,6 +470,8 @@ int main(void)
 {
     for (size_t i = 0; i < sizeof rows / sizeof *rows; i++)
         try_row(&rows[i]);
+    for (size_t i = 0; i < sizeof cr_rows / sizeof *cr_rows; i++)
+        try_row(&cr_rows[i]);
     TRY_ALL(accepted);
     TRY_ALL(refused);
     for (size_t i = 0; i < sizeof stacks / sizeof *stacks; i++)
@@ -376,6 +479,8 @@ int main(void)
     TRY_ALL(refused_marks);
     try_most_marks();
     try_longest();
+    try_longest_cr();
+    try_lent_alone();
     try_null();
     printf("C: %d calls, %d failed\n", calls, failures);
     return failures != 0;

@@ -40,6 +40,9 @@ pub enum Class {
     WS = 17,
     /// Other neutral
     ON = 18,
+    /// Carriage return, a class of the house: as B in every rule, but a B directly after it ends the same
+    /// paragraph
+    CR = 19,
 }
 
 impl Class {

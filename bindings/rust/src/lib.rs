@@ -40,7 +40,15 @@ pub const REMOVED: u8 = 255;
 /// The most positions that a paragraph may have, and the most characters that [`marks`] takes.
 pub const LONGEST: usize = 4096;
 
-/// The length of the first paragraph: it ends after the first B, or where the classes end.
+/// The length of the first paragraph. It ends after the first B or CR, or where the classes end; where a B
+/// follows the CR directly it ends after that B.
+///
+/// ```
+/// use melvorash::Class::{B, CR, L, R};
+///
+/// let classes = [L, CR, B, R].map(melvorash::Class::number);
+/// assert_eq!(melvorash::cut(&classes), Ok(3));
+/// ```
 pub fn cut(classes: &[u8]) -> Result<usize, Refusal> {
     outcome(boundary::cut(classes))
 }

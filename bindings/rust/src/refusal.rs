@@ -6,17 +6,18 @@ use std::fmt;
 ///
 /// Where several apply, the first in this order is given: 1, 3, then 2 or 4 at the first faulty position, then
 /// 5, 6, 7, 8 or 10, 9; the marks have 1, 3 and 16 alone. [`crate::cut`] gives 1, and then walks from the first
-/// position over at most 4,096: 2 where an unknown class comes before any B, also where more than 4,096 classes
-/// are lent; a B among them ends the paragraph, whatever follows; 3 where there is none and more follow.
+/// position over at most 4,096: 2 where an unknown class comes before any B or CR, also where more than 4,096
+/// classes are lent; the first B or CR among them ends the paragraph, a CR together with a B directly after it,
+/// whatever follows; 3 where there is none and more follow, or where the 4,096th is a CR and a B follows it.
 #[derive(Clone, Copy, Debug, PartialEq, Eq, Hash)]
 pub enum Refusal {
     /// There are no classes.
     NoClasses,
-    /// A class is above 18.
+    /// A class is above 19.
     UnknownClass(usize),
     /// There are more than 4,096 positions or characters.
     TooLong,
-    /// Class B stands before the last position.
+    /// B or CR stands before the last position, and is no CR that a last B follows directly.
     EarlySeparator(usize),
     /// The base request is above 2, or the base of an order above 1.
     BadBase,
@@ -67,7 +68,7 @@ impl fmt::Display for Refusal {
             Refusal::NoClasses => write!(f, "there are no classes"),
             Refusal::UnknownClass(at) => write!(f, "the class at position {at} is unknown"),
             Refusal::TooLong => write!(f, "there are more than 4,096 positions or characters"),
-            Refusal::EarlySeparator(at) => write!(f, "B stands at position {at}, which is not the last"),
+            Refusal::EarlySeparator(at) => write!(f, "B or CR at position {at} does not end the paragraph"),
             Refusal::BadBase => write!(f, "there is no such base level"),
             Refusal::ShortLevels => write!(f, "the level buffer is shorter than the paragraph"),
             Refusal::BadLevel(at) => write!(f, "the level at position {at} is none that resolving gives"),

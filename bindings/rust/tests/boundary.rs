@@ -3,7 +3,8 @@ use melvorash::Class::{self, *};
 use melvorash::Refusal::{self, *};
 use melvorash::{BY_TEXT, LONGEST, REMOVED};
 
-const CLASSES: [Class; 19] = [L, LRE, LRO, R, AL, RLE, RLO, PDF, EN, ES, ET, AN, CS, NSM, BN, B, S, WS, ON];
+const CLASSES: [Class; 20] =
+    [L, LRE, LRO, R, AL, RLE, RLO, PDF, EN, ES, ET, AN, CS, NSM, BN, B, S, WS, ON, CR];
 const X: u8 = REMOVED;
 
 /// What a buffer holds where nothing was written.
@@ -134,9 +135,23 @@ const ROWS: &[Row] = &[
     ("LRE RLO LRO", 0, 0, &[X, X, X], &[]),
 ];
 
+/// The same for CR, which that table does not have: with its B and without one.
+const CR_ROWS: &[Row] = &[
+    ("R WS CR B", 0, 0, &[1, 0, 0, 0], &[0, 1, 2, 3]),
+    ("R WS CR B", 1, 1, &[1, 1, 1, 1], &[3, 2, 1, 0]),
+    ("R WS CR", 0, 0, &[1, 0, 0], &[0, 1, 2]),
+    ("L WS CR", 1, 1, &[2, 1, 1], &[2, 1, 0]),
+    ("EN CR B", BY_TEXT, 0, &[0, 0, 0], &[0, 1, 2]),
+    ("RLO L CR B", 0, 0, &[X, 1, 0, 0], &[1, 2, 3]),
+    ("RLO L CR B", 1, 1, &[X, 3, 1, 1], &[3, 2, 1]),
+    ("LRO R CR", 1, 1, &[X, 2, 1], &[2, 1]),
+    ("CR B", 1, 1, &[1, 1], &[1, 0]),
+    ("CR", BY_TEXT, 0, &[0], &[0]),
+];
+
 #[test]
 fn rows_of_the_table() {
-    for &(names, request, base, levels, order) in ROWS {
+    for &(names, request, base, levels, order) in ROWS.iter().chain(CR_ROWS) {
         let classes = classes(names);
         let (to, ends) = (classes.len(), vec![classes.len() as u16]);
         let resolve = Lent { classes, base: request, room: to + 3, ..Lent::default() };
@@ -150,19 +165,40 @@ fn rows_of_the_table() {
 
 #[test]
 fn paragraphs_are_cut() {
-    for (names, length) in [("L B R", 2), ("B 19", 1), ("L R", 2)] {
+    for (names, length) in [("L B R", 2), ("B 20", 1), ("L R", 2)] {
         let classes = classes(names);
         assert_eq!(melvorash::cut(&classes), Ok(length));
         assert_eq!(melvorash::cut_part(&classes), &classes[..length]);
     }
-    for names in ["", "L 19 B"] {
+    for names in ["", "L 20 B"] {
         assert!(melvorash::cut_part(&classes(names)).is_empty());
     }
 }
 
 #[test]
+fn paragraphs_are_cut_behind_a_cr_and_its_b() {
+    let cases = [
+        ("CR B R", 2),
+        ("L CR B B", 3),
+        ("CR B 20", 2),
+        ("L CR L", 2),
+        ("CR 20", 1),
+        ("CR CR B", 1),
+        ("CR BN B", 1),
+        ("B CR B", 1),
+    ];
+    for (names, length) in cases {
+        let classes = classes(names);
+        assert_eq!(melvorash::cut(&classes), Ok(length), "{names}");
+        assert_eq!(melvorash::cut_part(&classes), &classes[..length], "{names}");
+    }
+    // the B stands behind what is lent
+    assert_eq!(melvorash::cut(&classes("L CR B")[..2]), Ok(2));
+}
+
+#[test]
 fn base_is_by_the_text() {
-    for (names, level) in [("WS EN", 0), ("LRE AL B", 1), ("NSM R L", 1), ("L R", 0)] {
+    for (names, level) in [("WS EN", 0), ("LRE AL B", 1), ("NSM R L", 1), ("L R", 0), ("AL CR B", 1)] {
         assert_eq!(melvorash::base(&classes(names)), Ok(level));
     }
 }
@@ -173,6 +209,10 @@ fn explicit_levels_come_before_the_rules_on_types() {
     accepts(Explicit, &rle, 0, &[X, 1, X, 0], &[]);
     let al = Lent { classes: classes("AL EN"), base: BY_TEXT, room: 2, ..Lent::default() };
     accepts(Explicit, &al, 1, &[1, 1], &[]);
+    let rlo = Lent { classes: classes("RLO L CR B"), room: 5, ..Lent::default() };
+    accepts(Explicit, &rlo, 0, &[X, 1, 0, 0], &[]);
+    let lro = Lent { classes: classes("LRO R CR"), base: 1, room: 4, ..Lent::default() };
+    accepts(Explicit, &lro, 1, &[X, 2, 1], &[]);
 }
 
 #[test]
@@ -181,6 +221,35 @@ fn lines_are_ordered_apart() {
     accepts(OrderLine, &Lent { from: 0, to: 2, ..whole.clone() }, 2, &[], &[0, 1]);
     accepts(OrderLine, &Lent { from: 2, to: 3, ..whole.clone() }, 1, &[], &[2]);
     accepts(OrderLines, &Lent { ends: vec![2, 3], ..whole }, 3, &[], &[0, 1, 2]);
+}
+
+#[test]
+fn a_line_may_end_between_cr_and_b() {
+    let at_0 = Lent { classes: classes("R WS CR B"), levels: vec![1, 0, 0, 0], room: 5, ..Lent::default() };
+    let at_1 = Lent { levels: vec![1, 1, 1, 1], base: 1, ..at_0.clone() };
+    for (whole, first) in [(at_0, [0, 1, 2]), (at_1, [2, 1, 0])] {
+        accepts(OrderLine, &Lent { from: 0, to: 3, ..whole.clone() }, 3, &[], &first);
+        accepts(OrderLine, &Lent { from: 3, to: 4, ..whole.clone() }, 1, &[], &[3]);
+        accepts(OrderLines, &Lent { ends: vec![3, 4], ..whole }, 4, &[], &[&first[..], &[3]].concat());
+    }
+}
+
+/// Levels that Resolve does not give, so that the order shows what the line puts back to the base.
+#[test]
+fn a_line_puts_cr_and_the_blanks_before_it_back() {
+    let cases: [(&str, u8, &[u8], &[u16]); 4] = [
+        ("R WS CR B", 0, &[1, 1, 1, 1], &[0, 1, 2, 3]),
+        ("R WS CR", 0, &[1, 1, 1], &[0, 1, 2]),
+        ("R WS BN CR", 0, &[1, 1, X, 1], &[0, 1, 3]),
+        ("R CR", 1, &[2, 3], &[1, 0]),
+    ];
+    for (names, base, levels, order) in cases {
+        let (levels, to) = (levels.to_vec(), levels.len());
+        let ends = vec![to as u16];
+        let line = Lent { classes: classes(names), base, levels, to, ends, room: 5, ..Lent::default() };
+        accepts(OrderLine, &line, order.len(), &[], order);
+        accepts(OrderLines, &line, order.len(), &[], order);
+    }
 }
 
 /// Combining classes, flags, the drawing order.
@@ -251,13 +320,21 @@ fn the_most_characters_are_taken() {
 fn bad_classes_are_refused() {
     let bad = |names: &str| Lent { classes: classes(names), base: 3, ..Lent::default() };
     refuses(ALL, &bad(""), NoClasses);
-    refuses(ALL, &bad("L 19"), UnknownClass(1));
+    refuses(ALL, &bad("L 20"), UnknownClass(1));
+    refuses(ALL, &bad("20 CR B"), UnknownClass(0));
     refuses(ALL, &bad("L L 255 B L"), UnknownClass(2));
-    refuses(CHECKED, &bad("L B 19"), EarlySeparator(1));
+    for names in ["L B 20", "L CR 20", "L CR L", "L CR B L", "L CR B B", "L CR CR B", "L CR BN B", "L B CR B"]
+    {
+        refuses(CHECKED, &bad(names), EarlySeparator(1));
+    }
+    for names in ["CR B L", "CR CR B", "CR BN B", "B CR"] {
+        refuses(CHECKED, &bad(names), EarlySeparator(0));
+    }
+    refuses(LEVELS, &bad("CR B"), BadBase);
     let longer = Lent { classes: vec![0; LONGEST + 1], base: 3, ..Lent::default() };
     refuses(ALL, &longer, TooLong);
     let mut unknown_last = longer;
-    unknown_last.classes[LONGEST] = 19;
+    unknown_last.classes[LONGEST] = 20;
     refuses(ALL, &unknown_last, TooLong);
 }
 
@@ -304,20 +381,37 @@ fn bad_lines_and_short_orders_are_refused() {
 fn the_longest_paragraph_is_taken() {
     let zeros = vec![0; LONGEST];
     let counted: Vec<u16> = (0..LONGEST as u16).collect();
-    let longest = Lent {
-        classes: zeros.clone(),
-        levels: zeros.clone(),
-        to: LONGEST,
-        ends: vec![LONGEST as u16],
-        room: LONGEST,
-        ..Lent::default()
-    };
-    accepts(Cut, &longest, LONGEST, &[], &[]);
-    accepts(Base, &longest, 0, &[], &[]);
-    accepts(Explicit, &longest, 0, &zeros, &[]);
-    accepts(Resolve, &longest, 0, &zeros, &[]);
-    accepts(OrderLine, &longest, LONGEST, &[], &counted);
-    accepts(OrderLines, &longest, LONGEST, &[], &counted);
+    let ended = [&zeros[2..], &classes("CR B")].concat();
+    for classes in [zeros.clone(), ended] {
+        let longest = Lent {
+            classes,
+            levels: zeros.clone(),
+            to: LONGEST,
+            ends: vec![LONGEST as u16],
+            room: LONGEST,
+            ..Lent::default()
+        };
+        accepts(Cut, &longest, LONGEST, &[], &[]);
+        accepts(Base, &longest, 0, &[], &[]);
+        accepts(Explicit, &longest, 0, &zeros, &[]);
+        accepts(Resolve, &longest, 0, &zeros, &[]);
+        accepts(OrderLine, &longest, LONGEST, &[], &counted);
+        accepts(OrderLines, &longest, LONGEST, &[], &counted);
+    }
+}
+
+/// CR as the last position that a paragraph may have, and what may follow it.
+#[test]
+fn the_longest_paragraph_ends_with_cr() {
+    let ended = |l: usize, names: &str| [vec![0; l], classes(names)].concat();
+    for end in ["CR", "CR L", "CR 20", "CR CR"] {
+        let lent = Lent { classes: ended(LONGEST - 1, end), ..Lent::default() };
+        accepts(Cut, &lent, LONGEST, &[], &[]);
+    }
+    let pair_beyond = Lent { classes: ended(LONGEST - 1, "CR B"), base: 3, ..Lent::default() };
+    refuses(ALL, &pair_beyond, TooLong);
+    let unknown_beyond = Lent { classes: ended(LONGEST - 1, "CR 20"), base: 3, ..Lent::default() };
+    refuses(CHECKED, &unknown_beyond, TooLong);
 }
 
 #[test]
