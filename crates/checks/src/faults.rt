@@ -59,8 +59,8 @@ pub(crate) fn search_fault(classes: &[u8]) -> Checked
     Checked::Sound
 }
 
-// A class that is a fault wherever something stands after it.
-pub(crate) fn is_fault(class: u8) -> bool
+// A class that is a fault before what closes a paragraph: where a walk over good classes stops.
+pub fn is_fault(class: u8) -> bool
     ensures { λ r. ⌜ r ≡ isFault class ⌝ }
 {
     if classes::is_unknown(class) {

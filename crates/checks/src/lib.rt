@@ -4,6 +4,7 @@ mod faults;
 
 use classes::LONGEST;
 use faults::first_fault;
+pub use faults::is_fault;
 use refusals::BAD_BASE;
 use refusals::Checked;
 use refusals::NO_CLASSES;

@@ -129,13 +129,17 @@ pub fn is_neutral(c: u8) -> bool
     c == ON
 }
 
+// Most classes come before B, and S is the next: two comparisons for what a line asks of every position.
 pub fn is_separator(c: u8) -> bool
     ensures { λ r. ⌜ r ≡ isSeparator c ⌝ }
 {
-    if c == S {
+    if c < B {
+        return false;
+    }
+    if c <= S {
         return true;
     }
-    is_paragraph_end(c)
+    c == CR
 }
 
 pub fn is_blank(c: u8) -> bool

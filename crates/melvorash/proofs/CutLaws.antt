@@ -7,7 +7,7 @@ use native.Mathlib.Omega.{arith}
 use mathlib.Core.Path.{_≡_, refl, ap, ap₂, _∙_}
 use mathlib.Core.Bool.{Bool, true, false}
 use mathlib.Core.List.{List, [], _∷_}
-use borrow.Author.Tests.{eq-eqb, ne-eqb}
+use borrow.Author.Tests.{eq-eqb, ne-eqb, eqb-true, eqb-false}
 use lib.Dec.{eqb}
 use lib.ListN.{length, getD, take, drop, length-take, drop-of-length-le}
 use Rattle.laws.specs.Choice.{if_then_else_}
@@ -17,8 +17,11 @@ use Rattle.rules.specs.Refusals.{longestParagraph, Check, sound, refuse, refuse
 use Rattle.rules.specs.Jobs.{Answer, accepted, refused, answered, cutAnswer, cutPart}
 use Rattle.laws.proofs.Lists.{drop-next}
 use Rattle.laws.proofs.Passes.{by-test}
+use Rattle.laws.proofs.Any.{neither}
 use Rattle.rules.proofs.PairLaws.{no-pair, pair-second}
+use Rattle.checks.specs.Faults.{isFault}
 use Rattle.melvorash.specs.Answers.{partLength}
+use Rattle.melvorash.specs.Stops.{stopAt}
 
 -- ---- the definitions' equations
 walk-one : (room at c : ℕ) (cs : List ℕ) → walk (suc room) at (c ∷ cs) ≡ (if isUnknown c then refuse 2 at else if isPair c cs then refuseWhere (eqb room 0) 3 else if isParagraphEnd c then sound else walk room (suc at) cs)
@@ -83,36 +86,38 @@ module _ (limit : ℕ) (cs : List ℕ) (i : ℕ) (w : Walking limit cs i) where
       here : walk (limit - i) i (drop i cs) ≡ (if isUnknown (getD cs i 0) then refuse 2 i else if isPair (getD cs i 0) (drop (i + 1) cs) then refuseWhere (eqb (limit - (i + 1)) 0) 3 else if isParagraphEnd (getD cs i 0) then sound else walk (limit - (i + 1)) (i + 1) (drop (i + 1) cs))
       here = rw (one-less, drop-next cs i h, walk-one) (rw add-one)
 
-      pub cut-unknown : isUnknown (getD cs i 0) ≡ true → refused 2 i ≡ walked limit cs
-      cut-unknown u = refusing 2 i (rw (here, u) at (w .checks))
+      -- the walk stops at a class that is none or at a separator
+      pub cut-stop : limit ≡ longestParagraph → isFault (getD cs i 0) ≡ true → stopAt cs i ≡ walked limit cs
+      unfolding stopAt isFault
+      cut-stop most fault =
+          by-test (isUnknown (getD cs i 0))
+          (λ u. rw u (refusing 2 i (rw (here, u) at (w .checks))))
+          (λ u. by-test (isPair (getD cs i 0) (drop (i + 1) cs))
+          (λ pair. by-test (eqb (i + 1) longestParagraph)
+          (λ e. let full : i + 1 ≡ longestParagraph = eqb-true (i + 1) longestParagraph e in
+          rw (u, pair, e) (refusing 3 0 (rw (here, u, pair, eq-eqb (limit - (i + 1)) 0 (omega arith)) at (w .checks))))
+          (λ e. let more : i + 1 ≡ longestParagraph → ⊥ = eqb-false (i + 1) longestParagraph e in
+          rw (u, pair, e)
+          (settled {check = sound} (i + 2) (rw (here, u, pair, ne-eqb (limit - (i + 1)) 0 (λ z. omega (arith, w .room, ne, more, most))) at (w .checks))
+          (rw (drop-next cs i h, P1-one, pair) at (w .paragraph)))))
+          (λ alone. let ends : isParagraphEnd (getD cs i 0) ≡ true = rw u at fault in
+          rw (u, alone)
+          (settled {check = sound} (i + 1) (rw (here, u, alone, ends) at (w .checks))
+          (rw (drop-next cs i h, P1-one, alone, ends) at (w .paragraph)))))
 
-      module _ (u : isUnknown (getD cs i 0) ≡ false) where
-        module _ (pair : isPair (getD cs i 0) (drop (i + 1) cs) ≡ true) where
-          -- its B would be one position too many
-          pub cut-pair-long : i + 1 ≡ limit → refused 3 0 ≡ walked limit cs
-          cut-pair-long e = refusing 3 0 (rw (here, u, pair, eq-eqb (limit - (i + 1)) 0 (omega arith)) at (w .checks))
-
-          pub cut-pair : (i + 1 ≡ limit → ⊥) → accepted (i + 2) ≡ walked limit cs
-          cut-pair more =
-              settled {check = sound} (i + 2) (rw (here, u, pair, ne-eqb (limit - (i + 1)) 0 (λ e. omega (arith, w .room, ne, more))) at (w .checks))
-              (rw (drop-next cs i h, P1-one, pair) at (w .paragraph))
-
-        pub cut-end : isPair (getD cs i 0) (drop (i + 1) cs) ≡ false → isParagraphEnd (getD cs i 0) ≡ true → accepted (i + 1) ≡ walked limit cs
-        cut-end alone p =
-            settled {check = sound} (i + 1) (rw (here, u, alone, p) at (w .checks))
-            (rw (drop-next cs i h, P1-one, alone, p) at (w .paragraph))
-
-        pub cut-on : isParagraphEnd (getD cs i 0) ≡ false → Walking limit cs (i + 1)
-        cut-on p =
-            let alone : isPair (getD cs i 0) (drop (i + 1) cs) ≡ false = no-pair (getD cs i 0) (drop (i + 1) cs) p in
-            let e : i + suc (length (P1 (drop (i + 1) cs))) ≡ length (P1 cs) = rw (drop-next cs i h, P1-one, alone, p) at (w .paragraph) in
-            record {
-              within = omega arith;
-              room = omega (arith, w .room, ne);
-              some = w .some;
-              checks = rw (here, u, alone, p) at (w .checks);
-              paragraph = omega arith;
-            }
+      pub cut-on : isFault (getD cs i 0) ≡ false → Walking limit cs (i + 1)
+      unfolding isFault
+      cut-on none =
+          let both : (isUnknown (getD cs i 0) ≡ false) × (isParagraphEnd (getD cs i 0) ≡ false) = neither (isUnknown (getD cs i 0)) (isParagraphEnd (getD cs i 0)) none in
+          let alone : isPair (getD cs i 0) (drop (i + 1) cs) ≡ false = no-pair (getD cs i 0) (drop (i + 1) cs) (both .1) in
+          let e : i + suc (length (P1 (drop (i + 1) cs))) ≡ length (P1 cs) = rw (drop-next cs i h, P1-one, alone, both .1) at (w .paragraph) in
+          record {
+            within = omega arith;
+            room = omega (arith, w .room, ne);
+            some = w .some;
+            checks = rw (here, both .0, alone, both .1) at (w .checks);
+            paragraph = omega arith;
+          }
 
 -- ---- the second form: the paragraph is a part of the lent classes
 P1-part : (cs : List ℕ) → take (length (P1 cs)) cs ≡ P1 cs

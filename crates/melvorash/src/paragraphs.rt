@@ -6,8 +6,28 @@ use refusals::NO_CLASSES;
 use refusals::TOO_LONG;
 use refusals::UNKNOWN_CLASS;
 ghost use mathlib.Core.Path.{_≡_};
+ghost use Prim.Native.Nat.{_<_};
+ghost use lib.ListN.{length};
 ghost use Rattle.rules.specs.Jobs.{cutAnswer, cutPart, baseAnswer};
 ghost use Rattle.melvorash.specs.Answers.{cutPage, basePage, partLength};
+ghost use Rattle.melvorash.specs.Stops.{stopAt};
+
+// What Cut answers where its walk stops: at a class that is none, or at a separator. A CR takes the B along that follows it.
+pub(crate) fn stop_at(classes: &[u8], i: usize) -> CutAnswer
+    requires { ⌜ i < length (now classes) ⌝ }
+    ensures { λ r. ⌜ cutPage r ≡ stopAt (now (classes .entry)) i ⌝ }
+{
+    if classes::is_unknown(classes[i]) {
+        return CutAnswer::Refused(refusals::at(UNKNOWN_CLASS, i));
+    }
+    if paragraph::is_pair(classes, i) {
+        if i + 1 == classes::LONGEST {
+            return CutAnswer::Refused(refusals::whole(TOO_LONG));
+        }
+        return CutAnswer::Length(i + 2);
+    }
+    CutAnswer::Length(i + 1)
+}
 
 // The paragraph's length. At most 4,096 positions are looked at, and none after the paragraph but for a B after a CR.
 pub fn cut(classes: &[u8]) -> CutAnswer
@@ -21,18 +41,8 @@ pub fn cut(classes: &[u8]) -> CutAnswer
         if i == classes::LONGEST {
             return CutAnswer::Refused(refusals::whole(TOO_LONG));
         }
-        let class = classes[i];
-        if classes::is_unknown(class) {
-            return CutAnswer::Refused(refusals::at(UNKNOWN_CLASS, i));
-        }
-        if classes::is_paragraph_end(class) {
-            if paragraph::is_pair(classes, i) {
-                if i + 1 == classes::LONGEST {
-                    return CutAnswer::Refused(refusals::whole(TOO_LONG));
-                }
-                return CutAnswer::Length(i + 2);
-            }
-            return CutAnswer::Length(i + 1);
+        if checks::is_fault(classes[i]) {
+            return stop_at(classes, i);
         }
         i += 1;
     }
