@@ -1,9 +1,9 @@
-//! Document 01's house numbers, as far as they are asked for here.
+//! Document 01's house numbers and ticket 4's CR, as far as they are asked for here.
 
 /// The names in the order of their numbers.
-const NAMES: [&str; 19] = [
+const NAMES: [&str; 20] = [
     "L", "LRE", "LRO", "R", "AL", "RLE", "RLO", "PDF", "EN", "ES", "ET", "AN", "CS", "NSM", "BN", "B", "S",
-    "WS", "ON",
+    "WS", "ON", "CR",
 ];
 
 pub const L: u8 = 0;
@@ -25,9 +25,10 @@ pub const B: u8 = 15;
 pub const S: u8 = 16;
 pub const WS: u8 = 17;
 pub const ON: u8 = 18;
+pub const CR: u8 = 19;
 
-pub const ALL: std::ops::RangeInclusive<u8> = L..=ON;
-pub const FIRST_UNKNOWN: u8 = 19;
+pub const ALL: std::ops::RangeInclusive<u8> = L..=CR;
+pub const FIRST_UNKNOWN: u8 = 20;
 
 pub const REMOVED_LEVEL: u8 = 255;
 pub const HIGHEST_LEVEL: u8 = 62;

@@ -4,16 +4,17 @@ use crate::classes::*;
 use crate::compare::{compare, Outcome};
 use crate::tally::Tally;
 
-/// Up to this length over all classes.
+/// Up to this length over all classes and the first number that is none.
 const LENGTH: usize = 4;
-/// And one longer over these: the strong classes, what the weak rules change, a blank, an override and its end.
-const FEWER: [u8; 11] = [L, R, AL, EN, AN, ET, CS, NSM, WS, RLO, PDF];
+/// And one longer over these: the strong classes, what the weak rules change, a blank, an override and its end,
+/// and the separators of a newline.
+const FEWER: [u8; 13] = [L, R, AL, EN, AN, ET, CS, NSM, WS, RLO, PDF, B, CR];
 /// How many places the buffers have that are not needed.
 const MORE_ROOM: usize = 2;
 
 pub fn run() -> bool {
     let mut tally = Tally::default();
-    let all: Vec<u8> = ALL.collect();
+    let all: Vec<u8> = ALL.chain([FIRST_UNKNOWN]).collect();
     let mut paragraphs = 0;
     for length in 0..=LENGTH {
         paragraphs += each_sequence(&all, length, |classes| try_classes(&mut tally, classes));

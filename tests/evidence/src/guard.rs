@@ -2,15 +2,15 @@
 //! that may not be touched, and what is lent to be read may not be written. Answers and buffers are compared
 //! with the second program's as well.
 use crate::call::{Input, Job, JOBS};
-use crate::classes::LONGEST;
+use crate::classes::{B, CR, LONGEST};
 use crate::compare::{outcome, UNTOUCHED, UNTOUCHED_PLACE};
 use crate::generator::Generator;
 use crate::memory::{Guarded, Side};
 use crate::program::{LIBRARY, SECOND};
 use crate::tally::Tally;
-use crate::{marks, shapes, spoil, trap};
+use crate::{marks, shapes, spoil, texts, trap};
 
-/// Every length up to this one, and the longest two.
+/// Every length up to this one, and the longest three.
 const SHORT: usize = 100;
 
 /// The buffers that a call may be lent.
@@ -38,8 +38,9 @@ pub fn run() -> bool {
     };
     try_input(&mut tally, &mut buffers, &JOBS, &Input::default());
     try_input(&mut tally, &mut buffers, &[Job::Marks], &Input::default());
-    for length in (1..=SHORT).chain([LONGEST - 1, LONGEST]) {
+    for length in (1..=SHORT).chain([LONGEST - 2, LONGEST - 1, LONGEST]) {
         try_length(&mut tally, &mut buffers, length);
+        try_texts(&mut tally, &mut buffers, length);
         try_marks(&mut tally, &mut buffers, length);
     }
     println!(
@@ -51,18 +52,36 @@ pub fn run() -> bool {
     tally.differences == 0
 }
 
-/// Good input of a length, with each request, and bad input for each refusal.
+/// Good input of a length, with each request and with CR, CR and B or anything at its end, and bad input for
+/// each refusal.
 fn try_length(tally: &mut Tally, buffers: &mut Buffers, length: usize) {
     let random = &mut Generator::new(length as u64, 0);
     let mut sound = Input::default();
     for request in 0..=2 {
-        sound = resolved(random, length, request);
-        try_input(tally, buffers, &JOBS, &sound);
+        let paragraphs = [
+            shapes::paragraph_with(random, length, &[CR]),
+            shapes::paragraph_with(random, length, &[CR, B]),
+            shapes::paragraph_of(random, length),
+        ];
+        for classes in paragraphs {
+            sound = resolved(random, classes, request);
+            try_input(tally, buffers, &JOBS, &sound);
+        }
     }
     for number in 1..=10 {
         let mut bad = sound.clone();
         spoil::spoil(random, &mut bad, &[number]);
         try_input(tally, buffers, &JOBS, &bad);
+    }
+}
+
+/// Texts to cut in which a newline of each form stands after so many positions.
+fn try_texts(tally: &mut Tally, buffers: &mut Buffers, length: usize) {
+    let random = &mut Generator::new(length as u64, 2);
+    let paragraph = shapes::paragraph_with(random, length, &[]);
+    for newline in texts::NEWLINES {
+        let text = Input { classes: [&paragraph, newline].concat().into(), ..Input::default() };
+        try_input(tally, buffers, &[Job::Cut, Job::CutPart], &text);
     }
 }
 
@@ -79,10 +98,11 @@ fn try_marks(tally: &mut Tally, buffers: &mut Buffers, length: usize) {
 }
 
 /// Sound input with no place more than all jobs need.
-fn resolved(random: &mut Generator, length: usize, request: u8) -> Input<'static> {
+fn resolved(random: &mut Generator, classes: Vec<u8>, request: u8) -> Input<'static> {
+    let length = classes.len();
     let (from, to) = shapes::line(random, length);
     let mut input = Input {
-        classes: shapes::paragraph_of(random, length).into(),
+        classes: classes.into(),
         request,
         level_room: length,
         from,

@@ -18,6 +18,7 @@ mod random;
 mod shapes;
 mod spoil;
 mod tally;
+mod texts;
 mod trap;
 
 use std::process::ExitCode;

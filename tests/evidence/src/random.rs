@@ -4,10 +4,12 @@ use crate::classes::is_removed;
 use crate::compare::{compare, Outcome};
 use crate::generator::Generator;
 use crate::tally::Tally;
-use crate::{law, shapes, spoil};
+use crate::{law, shapes, spoil, texts};
 use std::time::{Duration, Instant};
 
 const BETWEEN_PROGRESS_LINES: Duration = Duration::from_secs(30);
+/// One case in so many has a long text too.
+const LONG_TEXTS: usize = 10;
 
 pub struct Options {
     pub seed: u64,
@@ -54,7 +56,7 @@ impl Case<'_> {
 
     fn run(&mut self) {
         let classes = shapes::paragraph(&mut self.random);
-        self.cut_from_text(&classes);
+        self.cuts(&classes);
         let mut input = self.resolved(classes);
         for job in [Job::CutPart, Job::Base, Job::Explicit] {
             self.compare(job, &input);
@@ -70,11 +72,18 @@ impl Case<'_> {
         compare(self.tally, &self.name, job, input)
     }
 
-    /// The paragraph with anything whatever after it.
-    fn cut_from_text(&mut self, classes: &[u8]) {
-        let mut text = classes.to_vec();
-        let more = self.random.between(0, 3);
-        text.extend((0..more).map(|_| self.random.byte_between(0, 255)));
+    /// The paragraph out of a text that goes on.
+    fn cuts(&mut self, classes: &[u8]) {
+        let text = texts::around(&mut self.random, classes);
+        self.cut(text);
+        if self.random.one_in(LONG_TEXTS) {
+            let text = texts::long(&mut self.random);
+            self.cut(text);
+        }
+    }
+
+    /// Both forms of Cut.
+    fn cut(&mut self, text: Vec<u8>) {
         let input = Input { classes: text.into(), ..Input::default() };
         self.compare(Job::Cut, &input);
         self.compare(Job::CutPart, &input);

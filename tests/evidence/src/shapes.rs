@@ -2,7 +2,7 @@
 use crate::classes::*;
 use crate::generator::Generator;
 
-/// One paragraph: no B before the last position, 1 to 4,096 positions.
+/// One paragraph: 1 to 4,096 positions, and no separator but the last B, CR, or CR and B.
 pub fn paragraph(random: &mut Generator) -> Vec<u8> {
     let length = length(random);
     paragraph_of(random, length)
@@ -10,6 +10,12 @@ pub fn paragraph(random: &mut Generator) -> Vec<u8> {
 
 /// One of a given length.
 pub fn paragraph_of(random: &mut Generator, length: usize) -> Vec<u8> {
+    let end = if random.one_in(3) { random.pick(&ENDS) } else { &[] };
+    paragraph_with(random, length, end)
+}
+
+/// One of a given length with its last positions, of which a short one has only the last.
+pub fn paragraph_with(random: &mut Generator, length: usize, end: &[u8]) -> Vec<u8> {
     let mut classes = match random.between(0, 5) {
         0 => drawn(random, length, &ANY),
         1 => stretches(random, length),
@@ -18,12 +24,15 @@ pub fn paragraph_of(random: &mut Generator, length: usize) -> Vec<u8> {
         _ => nested(random, length),
     };
     strew_removed(random, &mut classes);
-    end(random, &mut classes);
+    let room = end.len().min(length);
+    classes[length - room..].copy_from_slice(&end[end.len() - room..]);
     classes
 }
 
-/// Every class but B.
-const ANY: [u8; 18] = [L, LRE, LRO, R, AL, RLE, RLO, PDF, EN, ES, ET, AN, CS, NSM, BN, S, WS, ON];
+/// What some paragraphs end with.
+const ENDS: [&[u8]; 6] = [&[B], &[B], &[CR], &[CR, B], &[S], &[WS]];
+/// Every class but B and CR.
+pub const ANY: [u8; 18] = [L, LRE, LRO, R, AL, RLE, RLO, PDF, EN, ES, ET, AN, CS, NSM, BN, S, WS, ON];
 /// For W1 to W7.
 const NUMBERS: [u8; 12] = [EN, EN, EN, AN, AN, ES, CS, ET, ET, NSM, AL, L];
 /// For L1 and the neutrals.
@@ -80,13 +89,6 @@ fn strew_removed(random: &mut Generator, classes: &mut [u8]) {
                 *class = random.pick(&[BN, BN, BN, PDF]);
             }
         }
-    }
-}
-
-fn end(random: &mut Generator, classes: &mut [u8]) {
-    if random.one_in(3) {
-        let last = classes.len() - 1;
-        classes[last] = random.pick(&[B, B, S, WS]);
     }
 }
 

@@ -2,6 +2,7 @@
 use crate::call::Input;
 use crate::classes::*;
 use crate::generator::Generator;
+use crate::texts::NEWLINES;
 
 /// The faults of the numbers that are given. They go in from the highest down, so that each finds the
 /// positions that it needs: the first ones change how many there are.
@@ -10,7 +11,7 @@ pub fn spoil(random: &mut Generator, input: &mut Input, numbers: &[u8]) {
         match number {
             1 => input.classes.to_mut().clear(),
             2 => unknown_class(random, input),
-            3 => input.classes.to_mut().resize(LONGEST + random.between(1, 3), L),
+            3 => too_many(random, input),
             4 => early_separator(random, input),
             5 => bad_base(random, input),
             6 => short_levels(random, input),
@@ -56,14 +57,32 @@ pub fn lengthen_marks(input: &mut Input, length: usize) {
 
 fn unknown_class(random: &mut Generator, input: &mut Input) {
     let at = random.place(input.classes.len());
-    input.classes.to_mut()[at] = random.pick(&[FIRST_UNKNOWN, 20, 127, 128, 254, 255]);
+    input.classes.to_mut()[at] = random.pick(&[FIRST_UNKNOWN, 21, 127, 128, 254, 255]);
 }
 
-/// A paragraph of one position has none before its last.
+/// In some, the pair CR and B stands so that only its B is too many.
+fn too_many(random: &mut Generator, input: &mut Input) {
+    let classes = input.classes.to_mut();
+    classes.resize(LONGEST + random.between(1, 3), L);
+    if random.one_in(3) {
+        classes[LONGEST - 1..=LONGEST].copy_from_slice(&[CR, B]);
+    }
+}
+
+/// As much of a newline as there is room for. A paragraph of one position has none before its last.
 fn early_separator(random: &mut Generator, input: &mut Input) {
-    let last = input.classes.len() - 1;
-    if last > 0 {
-        input.classes.to_mut()[random.place(last)] = B;
+    let classes = input.classes.to_mut();
+    let last = classes.len() - 1;
+    if last == 0 {
+        return;
+    }
+    let at = random.place(last);
+    for (place, &class) in classes[at..].iter_mut().zip(random.pick(&NEWLINES)) {
+        *place = class;
+    }
+    // CR before a last B is no fault.
+    if at + 1 == last && classes[last] == B {
+        classes[at] = B;
     }
 }
 

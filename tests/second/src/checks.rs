@@ -2,11 +2,15 @@
 //! 01; the callers put them in the order 1, 3, (2 or 4), 5, 6, 7, (8 or 10), 9.
 //! Of the marks they are those of ticket 14, in the order 1, 3, 16.
 
-use crate::classes::{is_removed, is_unknown, B, HIGHEST_RESOLVED, MOST_POSITIONS, REMOVED_LEVEL};
+use crate::classes::{
+    is_removed, is_separator, is_unknown, HIGHEST_RESOLVED, MOST_POSITIONS, REMOVED_LEVEL,
+};
+use crate::paragraph::separator_length;
 use crate::Refused;
 
 /// 1, then 3, then the first position from the left that is of no class (2)
-/// or that is B with something after it (4).
+/// or at which a separator begins that has something after it (4): so the CR,
+/// not the B, of a pair that stands too early.
 pub fn check_paragraph(classes: &[u8]) -> Result<(), Refused> {
     if classes.is_empty() {
         return Err((1, 0));
@@ -18,7 +22,7 @@ pub fn check_paragraph(classes: &[u8]) -> Result<(), Refused> {
         if is_unknown(class) {
             return Err((2, place));
         }
-        if class == B && place + 1 < classes.len() {
+        if is_separator(class) && place + separator_length(classes, place) < classes.len() {
             return Err((4, place));
         }
     }

@@ -1,5 +1,5 @@
-//! The class numbers of document 01 and the little that is asked of a class
-//! by itself.
+//! The class numbers of document 01, with ticket 4's CR, and the little that is
+//! asked of a class by itself.
 
 pub const L: u8 = 0;
 pub const LRE: u8 = 1;
@@ -20,6 +20,7 @@ pub const B: u8 = 15;
 pub const S: u8 = 16;
 pub const WS: u8 = 17;
 pub const ON: u8 = 18;
+pub const CR: u8 = 19;
 
 /// The most positions a paragraph may have, and the most characters of marks.
 pub const MOST_POSITIONS: usize = 4096;
@@ -32,7 +33,7 @@ pub const HIGHEST_RESOLVED: u8 = 62;
 
 /// A number above that of the last class stands for no class.
 pub fn is_unknown(class: u8) -> bool {
-    class > ON
+    class > CR
 }
 
 /// The classes X9 takes out. It is to be asked of original classes only.
@@ -40,9 +41,15 @@ pub fn is_removed(class: u8) -> bool {
     matches!(class, LRE | LRO | RLE | RLO | PDF | BN)
 }
 
+/// The paragraph separators: B, and CR, which is as B in every rule but that a
+/// B right after it belongs to it.
+pub fn is_separator(class: u8) -> bool {
+    matches!(class, B | CR)
+}
+
 /// The neutrals and separators of the chapter's letter N.
 pub fn is_neutral(class: u8) -> bool {
-    matches!(class, B | S | WS | ON)
+    is_separator(class) || matches!(class, S | WS | ON)
 }
 
 /// The direction of a level: L when even, R when odd (BD3).

@@ -1,7 +1,7 @@
 //! The explicit codes: X1 to X9. The stack has one entry for every code that
 //! is not yet matched by a PDF, the invalid ones included.
 
-use crate::classes::{is_removed, B, L, LRE, LRO, PDF, R, RLE, RLO};
+use crate::classes::{is_removed, B, CR, L, LRE, LRO, PDF, R, RLE, RLO};
 
 /// The highest level a code may ask for.
 const HIGHEST_EXPLICIT: u8 = 61;
@@ -99,12 +99,13 @@ fn x7(state: &mut State) {
     }
 }
 
-/// X8: the end of the paragraph ends all codes. The separator itself stands
-/// outside them: it is at the paragraph's level and stays B.
+/// X8: the end of the paragraph ends all codes. The separator itself, each of
+/// CR and B where it is the pair, stands outside them: it is at the paragraph's
+/// level and stays what it is.
 fn x8(state: &mut State, base: u8, position: &mut Position) {
     *state = x1(base);
     position.level = base;
-    position.class = B;
+    position.class = position.original;
 }
 
 /// X9: take out all codes, PDF and BN. The original class decides, so a BN that
@@ -136,7 +137,7 @@ pub fn explicit(classes: &[u8], base: u8) -> Vec<Position> {
             RLO => x4(&mut state),
             LRO => x5(&mut state),
             PDF => x7(&mut state),
-            B => x8(&mut state, base, &mut position),
+            B | CR => x8(&mut state, base, &mut position),
             _ => x6(&state, &mut position),
         }
         all.push(position);

@@ -5,9 +5,10 @@
 //! How it was kept independent: it was written from the chapter (source
 //! document 002) and from document 01 alone, before and without sight of the
 //! library's code and definitions. The marks were written from source documents
-//! 001 and 002 and from what ticket 14 asks, in its own words and in a longer
-//! telling, without sight of the library's code and definitions too. It shares
-//! no code, no table and no definition with that library.
+//! 001 and 002 and from what ticket 14 asks, and class 19, CR, from what ticket
+//! 4 asks, both in the ticket's own words and in a longer telling, without sight
+//! of the library's code and definitions too. It shares no code, no table and no
+//! definition with that library.
 //!
 //! How it is laid out: one function for each rule, named after the rule, with
 //! the rule restated above it. Everything is a plain loop over a `Vec`; speed
@@ -42,7 +43,7 @@ use explicit::Position;
 /// A refusal: its number (1 to 10 or 16) and its place.
 pub type Refused = (u8, usize);
 
-/// The length of the first paragraph of `classes`, its B included.
+/// The length of the first paragraph of `classes`, its B, CR or CR B included.
 pub fn cut(classes: &[u8]) -> Result<usize, Refused> {
     paragraph::p1(classes)
 }

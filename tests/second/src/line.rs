@@ -1,6 +1,6 @@
 //! One line: L1 and L2.
 
-use crate::classes::{is_removed, B, S, WS};
+use crate::classes::{is_removed, is_separator, S, WS};
 
 /// A kept position of the line on its way to its place on the display.
 pub struct Cell {
@@ -11,30 +11,35 @@ pub struct Cell {
 }
 
 /// L1: on the line `from..to`, by original classes, go back to the base level:
-/// S, B, every stretch of WS before an S or a B, and every stretch of WS at the
-/// end of the line. Removed positions are passed over. Answers the levels of
-/// the line.
+/// S, B, CR, every stretch of WS before one of these, and every stretch of WS
+/// at the end of the line. Removed positions are passed over. Answers the
+/// levels of the line.
 pub fn l1(classes: &[u8], levels: &[u8], base: u8, from: usize, to: usize) -> Vec<u8> {
     let mut reset = levels[from..to].to_vec();
     for place in from..to {
         let class = classes[place];
-        let separator = class == S || class == B;
         let trailing = class == WS && trails(classes, place, to);
-        if separator || trailing {
+        if takes_blanks(class) || trailing {
             reset[place - from] = base;
         }
     }
     reset
 }
 
-/// Whether, going on from a WS over further WS and over removed positions, an
-/// S, a B or the end of the line is what comes next.
+/// The classes that go back to the base level and take the blanks before them
+/// along: the separators of segments and of paragraphs.
+fn takes_blanks(class: u8) -> bool {
+    class == S || is_separator(class)
+}
+
+/// Whether, going on from a WS over further WS and over removed positions, a
+/// separator or the end of the line is what comes next.
 fn trails(classes: &[u8], place: usize, to: usize) -> bool {
     let mut next = place + 1;
     while next < to && (classes[next] == WS || is_removed(classes[next])) {
         next += 1;
     }
-    next == to || classes[next] == S || classes[next] == B
+    next == to || takes_blanks(classes[next])
 }
 
 /// L2: from the highest level on the line down to the lowest odd level on it,

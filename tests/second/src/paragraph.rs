@@ -1,11 +1,12 @@
 //! Paragraphs: the cut (P1) and the paragraph's own level (P2, P3).
 
-use crate::classes::{is_unknown, AL, B, L, MOST_POSITIONS, R};
+use crate::classes::{is_separator, is_unknown, AL, B, CR, L, MOST_POSITIONS, R};
 use crate::Refused;
 
-/// P1: a paragraph ends with the first B, which belongs to it, or with the
-/// text. At most 4,096 positions are looked at; nothing after the first
-/// paragraph is.
+/// P1: a paragraph ends with the first separator, which belongs to it, or with
+/// the text. The separator is B, CR with the B right after it, or CR alone. At
+/// most 4,096 positions may belong to it. Of what stands after a CR it is only
+/// asked whether it is B; nothing else after the first paragraph is looked at.
 pub fn p1(classes: &[u8]) -> Result<usize, Refused> {
     if classes.is_empty() {
         return Err((1, 0));
@@ -15,8 +16,8 @@ pub fn p1(classes: &[u8]) -> Result<usize, Refused> {
         if is_unknown(classes[place]) {
             return Err((2, place));
         }
-        if classes[place] == B {
-            return Ok(place + 1);
+        if is_separator(classes[place]) {
+            return accepted_length(place + separator_length(classes, place));
         }
         place += 1;
     }
@@ -24,6 +25,25 @@ pub fn p1(classes: &[u8]) -> Result<usize, Refused> {
         return Err((3, 0));
     }
     Ok(place)
+}
+
+/// How many positions the separator at `place` has: two if it is CR and a B
+/// stands right after it, else one.
+pub fn separator_length(classes: &[u8], place: usize) -> usize {
+    if classes[place] == CR && classes.get(place + 1) == Some(&B) {
+        2
+    } else {
+        1
+    }
+}
+
+/// The length of a paragraph with its separator; the B of a pair may be the one
+/// position too many (3).
+fn accepted_length(length: usize) -> Result<usize, Refused> {
+    if length > MOST_POSITIONS {
+        return Err((3, 0));
+    }
+    Ok(length)
 }
 
 /// P2: find the first strong character, L, R or AL, of the paragraph, however

@@ -1,9 +1,10 @@
 //! Document 01 as tests: the proof table and other checks, the edges, the
-//! plausible errors, and the cut; in parts of their own the refusals and the
-//! chapter's examples.
+//! plausible errors, and the cut; in parts of their own the refusals, the
+//! chapter's examples, and class 19 of ticket 4.
 
 mod chapter;
 mod common;
+mod newline;
 mod refusals;
 
 use common::{classes, explicit, levels, line, lines, places, resolve};
@@ -459,7 +460,7 @@ fn cut_ends_after_the_first_b_or_with_the_text() {
     assert_eq!(cut(&classes("L R")), Ok(2));
     assert_eq!(cut(&classes("L B R B")), Ok(2));
     assert_eq!(cut(&classes("B B")), Ok(1));
-    assert_eq!(cut(&[0, 15, 19]), Ok(2));
+    assert_eq!(cut(&[0, 15, 20]), Ok(2));
 }
 
 #[test]
@@ -474,10 +475,10 @@ fn cut_part_is_the_beginning_of_the_lent_classes() {
 #[test]
 fn cut_refuses() {
     assert_eq!(cut(&[]), Err((1, 0)));
-    assert_eq!(cut(&[0, 3, 19, 15]), Err((2, 2)));
-    assert_eq!(cut(&[255, 19]), Err((2, 0)));
+    assert_eq!(cut(&[0, 3, 20, 15]), Err((2, 2)));
+    assert_eq!(cut(&[255, 20]), Err((2, 0)));
     assert!(cut_part(&[]).is_empty());
-    assert!(cut_part(&[0, 3, 19, 15]).is_empty());
+    assert!(cut_part(&[0, 3, 20, 15]).is_empty());
     assert!(cut_part(&vec![0; 4097]).is_empty());
 }
 
@@ -492,7 +493,7 @@ fn cut_walks_4096_positions_and_no_more() {
     text[4095] = 15;
     assert_eq!(cut(&text), Ok(4096));
     assert_eq!(cut_part(&text).len(), 4096);
-    text[4095] = 19;
+    text[4095] = 20;
     assert_eq!(cut(&text), Err((2, 4095)));
     text[7] = 20;
     assert_eq!(cut(&text), Err((2, 7)));

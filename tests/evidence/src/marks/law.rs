@@ -1,11 +1,14 @@
 //! What holds of every drawing order, seen on the order itself and apart from both programs.
 
+/// Of the combining classes and their drawing order.
+type Law = fn(&[u8], &[u16]) -> bool;
+
 /// The law that the order breaks, if it breaks one.
 pub fn broken(classes: &[u8], order: &[u16]) -> Option<&'static str> {
     if !each_once(classes.len(), order) {
         return Some("not every position once");
     }
-    let laws: [(fn(&[u8], &[u16]) -> bool, &str); 3] = [
+    let laws: [(Law, &str); 3] = [
         (starters_stay, "a character of class 0 has moved"),
         (classes_rise, "characters of one class are not in their order"),
         (equivalent, "what is drawn is not canonically equivalent"),

@@ -13,7 +13,7 @@ pub const ORDER_MARK: u16 = 47_777;
 pub fn classes(names: &str) -> Vec<u8> {
     let known = [
         "L", "LRE", "LRO", "R", "AL", "RLE", "RLO", "PDF", "EN", "ES", "ET", "AN", "CS", "NSM",
-        "BN", "B", "S", "WS", "ON",
+        "BN", "B", "S", "WS", "ON", "CR",
     ];
     names
         .split_whitespace()
