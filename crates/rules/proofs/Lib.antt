@@ -2,6 +2,7 @@
 pub mod LineLaws
 pub mod PairLaws
 pub mod CutTheorems
+pub mod ClosingTheorem
 pub mod PairTable
 pub mod EndLaws
 pub mod RefusalTable
