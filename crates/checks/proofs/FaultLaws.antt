@@ -7,15 +7,15 @@ use native.Mathlib.Omega.{arith}
 use mathlib.Core.Path.{_≡_, refl, sym, ap, _∙_}
 use mathlib.Core.Bool.{Bool, true, false, _&&_}
 use mathlib.Core.List.{List, [], _∷_}
-use borrow.Author.Tests.{ne-eqb, eqb-true}
+use borrow.Author.Tests.{ne-eqb, eqb-true, eqb-false, lt-ltb, le-ltb}
 use lib.Dec.{eqb}
 use lib.ListN.{length, getD, take, drop, length-drop, drop-of-length-le}
 use Rattle.laws.specs.Any.{anyOf}
-use Rattle.laws.proofs.Any.{neither, none-first}
+use Rattle.laws.proofs.Any.{neither, none-first, or-false}
 use Rattle.laws.proofs.Lists.{drop-next}
 use Rattle.laws.proofs.Passes.{by-test}
-use Rattle.laws.proofs.Tests.{not-both, and-false}
-use Rattle.rules.specs.Classes.{B, CR, isUnknown, isParagraphEnd}
+use Rattle.laws.proofs.Tests.{not-both, and-true, and-false}
+use Rattle.rules.specs.Classes.{B, CR, highestClass, isUnknown, isParagraphEnd}
 use Rattle.rules.specs.Paragraph.{isPair}
 use Rattle.rules.specs.Refusals.{Check, sound, refuse, _andThen_, isEmpty, mayEnd, faultAt, firstFault}
 use Rattle.rules.proofs.PairLaws.{pair-past}
@@ -27,14 +27,10 @@ unfolding mayEnd
 may-last c [] none = refl
 may-last c (d ∷ cs) none = absurd (omega arith)
 
-and-true : (b : Bool) → b ≡ (b && true)
-and-true true = refl
-and-true false = refl
-
 pub may-pair : (c : ℕ) (cs : List ℕ) → length cs ≡ 1 → isPair c cs ≡ mayEnd c cs
 unfolding mayEnd
 may-pair c [] one = absurd (omega arith)
-may-pair c (d ∷ []) one = and-true (isPair c (d ∷ []))
+may-pair c (d ∷ []) one = sym (and-true (isPair c (d ∷ [])))
 may-pair c (d ∷ e ∷ cs) one = absurd (omega arith)
 
 pub may-not : (c : ℕ) (cs : List ℕ) → (length cs ≡ 0 → ⊥) → (length cs ≡ 1 → ⊥) → false ≡ mayEnd c cs
@@ -78,13 +74,18 @@ unfolding firstFault
 walk-done cs i whole h e = rw (drop-of-length-le cs h) at e
 
 -- ---- the test on one class
-pub fault-first : (c : ℕ) → isUnknown c ≡ true → true ≡ isFault c
-unfolding isFault
-fault-first c u = rw u
+-- CR is the highest class
+pub fault-high : (c : ℕ) → CR ≤ c → true ≡ isFault c
+unfolding isFault isUnknown isParagraphEnd
+fault-high c high =
+    by-test (eqb c CR)
+    (λ e. let is : c ≡ CR = eqb-true c CR e in rw is)
+    (λ e. rw (lt-ltb highestClass c (omega (arith, eqb-false c CR e))))
 
-pub fault-second : (c : ℕ) → isUnknown c ≡ false → isParagraphEnd c ≡ isFault c
-unfolding isFault
-fault-second c u = rw u
+pub fault-low : (c : ℕ) → c < CR → eqb c B ≡ isFault c
+unfolding isFault isUnknown isParagraphEnd
+fault-low c low =
+    rw (le-ltb highestClass c (omega arith), ne-eqb c CR (λ e. let is : c ≡ CR = e in omega arith)) (sym (or-false (eqb c B)))
 
 no-fault : (at c : ℕ) (cs : List ℕ) → isFault c ≡ false → faultAt at c cs ≡ sound
 unfolding isFault

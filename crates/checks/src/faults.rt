@@ -59,14 +59,15 @@ pub(crate) fn search_fault(classes: &[u8]) -> Checked
     Checked::Sound
 }
 
-// A class that is a fault before what closes a paragraph: where a walk over good classes stops.
+// A class that is a fault before what closes a paragraph: where a walk over good classes stops. CR is the highest class, so
+// one comparison finds it and every number that is none.
 pub fn is_fault(class: u8) -> bool
     ensures { λ r. ⌜ r ≡ isFault class ⌝ }
 {
-    if classes::is_unknown(class) {
-        return true; // 2
+    if classes::CR <= class {
+        return true;
     }
-    classes::is_paragraph_end(class)
+    class == classes::B
 }
 
 // It looks at every class: a loop that could stop at the first fault would read them one by one.

@@ -69,10 +69,10 @@ pub fn is_unknown(c: u8) -> bool
 pub fn is_paragraph_end(c: u8) -> bool
     ensures { λ r. ⌜ r ≡ isParagraphEnd c ⌝ }
 {
-    if c == B {
+    if c == CR {
         return true;
     }
-    c == CR
+    c == B
 }
 
 pub fn is_opening(c: u8) -> bool
@@ -114,19 +114,14 @@ pub fn is_strong(c: u8) -> bool
     c == AL
 }
 
+// The neutrals are the classes behind BN.
 pub fn is_neutral(c: u8) -> bool
     ensures { λ r. ⌜ r ≡ isNeutral c ⌝ }
 {
-    if is_paragraph_end(c) {
-        return true;
+    if c <= BN {
+        return false;
     }
-    if c == S {
-        return true;
-    }
-    if c == WS {
-        return true;
-    }
-    c == ON
+    c <= CR
 }
 
 // Most classes come before B, and S is the next: two comparisons for what a line asks of every position.

@@ -16,6 +16,10 @@ known e h = sym e ∙ h
 pub not-both : {test : Bool} → test ≡ true → test ≡ false → ⊥
 not-both holds fails = let z : true ≡ false = sym holds ∙ fails in let n : _≡_ {A = ℕ} 0 1 = cc in omega arith
 
+pub and-true : (b : Bool) → (b && true) ≡ b
+and-true true = refl
+and-true false = refl
+
 pub and-false : (b : Bool) → (b && false) ≡ false
 and-false true = refl
 and-false false = refl
