@@ -69,10 +69,10 @@ pub fn is_unknown(c: u8) -> bool
 pub fn is_paragraph_end(c: u8) -> bool
     ensures { λ r. ⌜ r ≡ isParagraphEnd c ⌝ }
 {
-    if c == CR {
+    if c == B {
         return true;
     }
-    c == B
+    c == CR
 }
 
 pub fn is_opening(c: u8) -> bool
@@ -114,27 +114,28 @@ pub fn is_strong(c: u8) -> bool
     c == AL
 }
 
-// The neutrals are the classes behind BN.
 pub fn is_neutral(c: u8) -> bool
     ensures { λ r. ⌜ r ≡ isNeutral c ⌝ }
 {
-    if c <= BN {
-        return false;
+    if is_paragraph_end(c) {
+        return true;
     }
-    c <= CR
+    if c == S {
+        return true;
+    }
+    if c == WS {
+        return true;
+    }
+    c == ON
 }
 
-// Most classes come before B, and S is the next: two comparisons for what a line asks of every position.
 pub fn is_separator(c: u8) -> bool
     ensures { λ r. ⌜ r ≡ isSeparator c ⌝ }
 {
-    if c < B {
-        return false;
-    }
-    if c <= S {
+    if c == S {
         return true;
     }
-    c == CR
+    is_paragraph_end(c)
 }
 
 pub fn is_blank(c: u8) -> bool
