@@ -1,7 +1,6 @@
 -- `paragraph::level_of` meets its contract: each return is one way through the tests on the class found.
 -- Assumes nothing.
 use Rattle.rules.specs.Paragraph.{P3}
-use Rattle.laws.proofs.Tests.{tests}
 use borrow.Author.Tests.{eq-eqb, ne-eqb}
 use borrow.Author.Needs.{needs}
 use Rattle.paragraph.proofs.level_of.Statement.{statement}
@@ -27,7 +26,7 @@ returns-3 c = rw (c .before .before .before .found .given .1, ne-eqb _ _ (c .bef
 
 returns-4 : tie.Need-returns-4
 unfolding P3
-returns-4 c = search (needs, tests)
+returns-4 c = rw (c .enum-told .given .1)
 
 pub level-of-spec : {M : Type 1} → statement M
 level-of-spec =
