@@ -2,7 +2,7 @@
 -- Assumes nothing.
 use Rattle.rules.specs.Paragraph.{P3}
 use Rattle.laws.proofs.Tests.{tests}
-use borrow.Author.Tests.{ne-eqb}
+use borrow.Author.Tests.{eq-eqb, ne-eqb}
 use borrow.Author.Needs.{needs}
 use Rattle.paragraph.proofs.level_of.Statement.{statement}
 use Rattle.paragraph.proofs.level_of.Tie as tie
@@ -12,11 +12,11 @@ enum-known-found c = search needs
 
 returns : tie.Need-returns
 unfolding P3
-returns c = search (needs, tests)
+returns c = rw (c .before .before .found .given .1, eq-eqb _ _ (c .if1 .taken))
 
 returns-2 : tie.Need-returns-2
 unfolding P3
-returns-2 c = search (needs, tests)
+returns-2 c = rw (c .before .before .before .found .given .1, ne-eqb _ _ (c .before .if1 .left), eq-eqb _ _ (c .if2 .taken))
 
 enum-told : tie.Need-enum-told
 enum-told c = search needs
