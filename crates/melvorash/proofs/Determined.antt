@@ -1,11 +1,11 @@
 -- Any two outcomes that a job's promise allows are equal: one lemma for a promise without a buffer, one for a promise
 -- with one, and each job's instance, about the promise that its `ensures` cites. Assumes nothing.
 use Prim.Native.Nat.{ℕ}
-use mathlib.Core.Path.{_≡_, refl, sym, ap, _∙_}
+use mathlib.Core.Path.{_≡_, refl}
 use mathlib.Core.List.{List}
 use mathlib.Core.Option.{Option, none, some}
 use Rattle.rules.specs.Jobs.{Answer, accepted, refused, cutAnswer, cutPart, baseAnswer, levelsAnswer, explicitBuffer, resolveBuffer}
-use Rattle.laws.proofs.Determined.{determined}
+use Rattle.laws.proofs.Determined.{determined, told-apart}
 use Rattle.refusals.specs.Page.{refusalWith}
 use Rattle.melvorash.specs.Answers.{cutPage, basePage, levelsPage, orderPage, Leaves, OrdersLine, OrdersLines}
 use Rattle.melvorash.specs.declared.answers.CutAnswer.{CutAnswer}
@@ -16,10 +16,6 @@ use Rattle.melvorash.specs.declared.answers.LevelsAnswer.{LevelsAnswer}
 use Rattle.melvorash.specs.declared.answers.LevelsAnswer.the-variants as Levelling
 use Rattle.melvorash.specs.declared.answers.OrderAnswer.{OrderAnswer}
 use Rattle.melvorash.specs.declared.answers.OrderAnswer.the-variants as Ordering
-
--- a page that some function reads back tells its answers apart
-pub told-apart : {A B : Type 0} (page : A → B) (back : B → A) → ((a : A) → back (page a) ≡ a) → {wanted : B} (a b : A) → page a ≡ wanted → page b ≡ wanted → a ≡ b
-told-apart page back reads a b p q = sym (reads a) ∙ ap back (determined p q) ∙ reads b
 
 module _ {A B : Type 0} (page : B → Answer A) (back : Answer A → B) (reads : (b : B) → back (page b) ≡ b) where
   leaves-determined : {wanted : Answer A} {left : List ℕ} {b c : B} {x y : List ℕ} → Leaves wanted left (page b) x → Leaves wanted left (page c) y → (b ≡ c) × (x ≡ y)

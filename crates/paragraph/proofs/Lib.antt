@@ -1,1 +1,2 @@
 pub mod BaseLaws
+pub mod Determined
