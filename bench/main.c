@@ -105,7 +105,7 @@ typedef melvorash_answer job(const workload *w, uint8_t *levels);
 
 static melvorash_answer explicit_levels(const workload *w, uint8_t *levels)
 {
-    return melvorash_explicit(w->classes, positions_of(w), MELVORASH_BY_TEXT, levels, MELVORASH_LONGEST);
+    return melvorash_explicit(w->classes, positions_of(w), MELVORASH_BY_TEXT, 0, levels, MELVORASH_LONGEST);
 }
 
 /* Every paragraph of the text, the next from where the last one ends. */
@@ -124,7 +124,7 @@ static melvorash_answer cut(const workload *w, uint8_t *levels)
 /* Refused with 6, the last that Resolve checks. */
 static melvorash_answer refusal(const workload *w, uint8_t *levels)
 {
-    return melvorash_resolve(w->classes, positions_of(w), MELVORASH_BY_TEXT, levels, 0);
+    return melvorash_resolve(w->classes, positions_of(w), MELVORASH_BY_TEXT, 0, levels, 0);
 }
 
 /* No flag is set. */

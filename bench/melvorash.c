@@ -1,4 +1,4 @@
-/* Melvorash through its boundary: Resolve, then Order of one line. */
+/* Melvorash through its boundary: Resolve, by the text or else 0 as in the peers, then Order of one line. */
 #include "bench.h"
 
 static const uint8_t *classes;
@@ -13,7 +13,7 @@ static void take(const workload *w)
 static size_t order(size_t start, size_t length)
 {
     melvorash_answer base =
-        melvorash_resolve(classes + start, length, MELVORASH_BY_TEXT, levels, MELVORASH_LONGEST);
+        melvorash_resolve(classes + start, length, MELVORASH_BY_TEXT, 0, levels, MELVORASH_LONGEST);
     return melvorash_order_line(classes + start, length, levels, MELVORASH_LONGEST, (uint8_t)base.value, 0,
                                 length, places, MELVORASH_LONGEST)
         .value;

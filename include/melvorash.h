@@ -52,10 +52,16 @@ extern "C" {
 #define MELVORASH_ON 18
 #define MELVORASH_CR 19
 
-/* Which base level is asked for; by the text, the first L, R or AL decides. */
+/*
+ * Which base level is asked for. By the text, the first L, R or AL decides, and where there is none the
+ * default, `fallback`. That is 0 or 1 with every request, also where it is not used.
+ */
 #define MELVORASH_LEFT_TO_RIGHT 0
 #define MELVORASH_RIGHT_TO_LEFT 1
 #define MELVORASH_BY_TEXT 2
+
+/* What melvorash_base answers where no L, R or AL stands in the paragraph. It is no base level. */
+#define MELVORASH_NONE_FOUND 2
 
 /* The level of a removed position, one whose class is LRE, LRO, RLE, RLO, PDF or BN. It has no other use. */
 #define MELVORASH_REMOVED 255
@@ -82,7 +88,8 @@ enum melvorash_refusal {
     MELVORASH_TOO_LONG = 3,        /* there are more than 4,096 positions or characters */
     MELVORASH_EARLY_SEPARATOR = 4, /* B or CR stands before the last position, and is no CR that a last B
                                       follows directly; place: the first faulty position */
-    MELVORASH_BAD_BASE = 5,        /* the base request is above 2, or the base of an order above 1 */
+    MELVORASH_BAD_BASE = 5,        /* the base request is above 2, or the default above 1 with any request, or
+                                      the base of an order above 1 */
     MELVORASH_SHORT_LEVELS = 6,    /* the level buffer has fewer positions than the paragraph */
     MELVORASH_BAD_LEVEL = 7,       /* a lent level is not 0 to 62 on a kept position, or not 255 on a removed
                                       one; place: the first such position */
@@ -111,19 +118,19 @@ typedef struct melvorash_answer {
  */
 melvorash_answer melvorash_cut(const uint8_t *classes, size_t class_count);
 
-/* The base level of one paragraph by its text, 0 or 1. */
+/* The base level of one paragraph by its text, 0 or 1, or MELVORASH_NONE_FOUND. */
 melvorash_answer melvorash_base(const uint8_t *classes, size_t class_count);
 
 /*
  * Writes the first class_count levels as they stand after X1 to X9, and nothing after them. Answers the
- * base level used.
+ * base level used, 0 or 1: the request itself, or by the text what melvorash_base finds, or else `fallback`.
  */
 melvorash_answer melvorash_explicit(const uint8_t *classes, size_t class_count, uint8_t request,
-                                    uint8_t *levels, size_t level_count);
+                                    uint8_t fallback, uint8_t *levels, size_t level_count);
 
 /* The same with the levels after I1 and I2, before any line is known. */
 melvorash_answer melvorash_resolve(const uint8_t *classes, size_t class_count, uint8_t request,
-                                   uint8_t *levels, size_t level_count);
+                                   uint8_t fallback, uint8_t *levels, size_t level_count);
 
 /*
  * Orders the line from position `from` up to, not including, `to`, by L1 and L2. Takes the levels and the

@@ -16,6 +16,7 @@ enum {
     CLASSES, /* the first number that is no class */
     X = MELVORASH_REMOVED,
     TEXT = MELVORASH_BY_TEXT,
+    NONE = MELVORASH_NONE_FOUND,
     LONGEST = MELVORASH_LONGEST,
     ROOM = LONGEST + 4, /* more than any call is lent */
     UNTOUCHED = 0xA5
@@ -42,6 +43,7 @@ typedef struct {
     unsigned functions;
     bytes classes; /* directional, or combining for the marks */
     uint8_t base; /* a base request, or the base of an order */
+    uint8_t fallback; /* the default that goes with a request */
     bytes levels; /* lent to Order */
     size_t from, to;
     places ends;
@@ -66,8 +68,8 @@ static melvorash_answer call(const example *e, unsigned function, buffers *b)
     switch (function) {
     case CUT: return melvorash_cut(b->classes, n);
     case BASE: return melvorash_base(b->classes, n);
-    case EXPLICIT: return melvorash_explicit(b->classes, n, e->base, b->levels, e->room);
-    case RESOLVE: return melvorash_resolve(b->classes, n, e->base, b->levels, e->room);
+    case EXPLICIT: return melvorash_explicit(b->classes, n, e->base, e->fallback, b->levels, e->room);
+    case RESOLVE: return melvorash_resolve(b->classes, n, e->base, e->fallback, b->levels, e->room);
     case ORDER_LINE:
         return melvorash_order_line(b->classes, n, b->lent, lent, e->base, e->from, e->to, b->order, e->room);
     case ORDER_LINES:
@@ -183,7 +185,7 @@ static const row cr_rows[] = {
     {"CR", BYTES(CR), TEXT, 0, BYTES(0), PLACES(0)},
 };
 
-/* A row goes through Cut, Resolve and both forms of Order, with buffers that are longer than they need be. */
+/* A row goes through Cut, Resolve with default 0 and both forms of Order, with buffers longer than they need be. */
 static void try_row(const row *r)
 {
     uint16_t end = (uint16_t)r->classes.count;
@@ -198,6 +200,69 @@ static void try_row(const row *r)
     TRY_ALL(examples);
 }
 
+/* ---- what Base finds, the base used by the text with default 0 and 1, and the levels at each base */
+typedef struct {
+    const char *name;
+    bytes classes;
+    size_t found;
+    uint8_t by_text[2];
+    bytes explicit_at[2], resolved_at[2];
+} text;
+
+static const text texts[] = {
+    {"EN", BYTES(EN), NONE, {0, 1}, {BYTES(0), BYTES(1)}, {BYTES(0), BYTES(2)}},
+    {"ON WS", BYTES(ON, WS), NONE, {0, 1}, {BYTES(0, 0), BYTES(1, 1)}, {BYTES(0, 0), BYTES(1, 1)}},
+    {"RLE", BYTES(RLE), NONE, {0, 1}, {BYTES(X), BYTES(X)}, {BYTES(X), BYTES(X)}},
+    {"RLE EN", BYTES(RLE, EN), NONE, {0, 1}, {BYTES(X, 1), BYTES(X, 3)}, {BYTES(X, 2), BYTES(X, 4)}},
+    {"B", BYTES(B), NONE, {0, 1}, {BYTES(0), BYTES(1)}, {BYTES(0), BYTES(1)}},
+    {"CR B", BYTES(CR, B), NONE, {0, 1}, {BYTES(0, 0), BYTES(1, 1)}, {BYTES(0, 0), BYTES(1, 1)}},
+    {"L", BYTES(L), 0, {0, 0}, {BYTES(0), BYTES(1)}, {BYTES(0), BYTES(2)}},
+    {"R", BYTES(R), 1, {1, 1}, {BYTES(0), BYTES(1)}, {BYTES(1), BYTES(1)}},
+    {"AL", BYTES(AL), 1, {1, 1}, {BYTES(0), BYTES(1)}, {BYTES(1), BYTES(1)}},
+    {"EN L R", BYTES(EN, L, R), 0, {0, 0}, {BYTES(0, 0, 0), BYTES(1, 1, 1)},
+     {BYTES(0, 0, 1), BYTES(2, 2, 1)}},
+    {"EN AL B", BYTES(EN, AL, B), 1, {1, 1}, {BYTES(0, 0, 0), BYTES(1, 1, 1)},
+     {BYTES(0, 1, 0), BYTES(2, 1, 1)}},
+};
+
+static void try_text(const text *t)
+{
+    const example found = {.name = t->name, .classes = t->classes, .wanted = {0, 0, t->found}};
+    const uint8_t used_by[][2] = {{0, 0}, {1, 1}, {t->by_text[0], t->by_text[1]}};
+    try_one(&found, BASE);
+    for (uint8_t request = 0; request <= TEXT; request++)
+        for (uint8_t fallback = 0; fallback <= 1; fallback++) {
+            char name[64];
+            uint8_t used = used_by[request][fallback];
+            snprintf(name, sizeof name, "%s, request %d, default %d", t->name, request, fallback);
+            const example levels[] = {
+                {.name = name, .functions = EXPLICIT, .classes = t->classes, .base = request, .fallback = fallback,
+                 .room = t->classes.count + 2, .wanted = {0, 0, used}, .wanted_levels = t->explicit_at[used]},
+                {.name = name, .functions = RESOLVE, .classes = t->classes, .base = request, .fallback = fallback,
+                 .room = t->classes.count + 2, .wanted = {0, 0, used}, .wanted_levels = t->resolved_at[used]},
+            };
+            TRY_ALL(levels);
+        }
+}
+
+/* ---- no default above 1 with any request, also where it would not be used */
+static void try_bad_defaults(void)
+{
+    static const uint8_t bad[] = {2, 3, 255};
+    for (uint8_t request = 0; request <= 3; request++)
+        for (size_t i = 0; i < sizeof bad; i++) {
+            char name[64];
+            snprintf(name, sizeof name, "request %d, default %d", request, bad[i]);
+            const example examples[] = {
+                {.name = name, .functions = LEVELS, .classes = BYTES(EN), .base = request, .fallback = bad[i],
+                 .room = 2, .wanted = {5, 0, 0}},
+                {.name = name, .functions = LEVELS, .classes = BYTES(L, R), .base = request, .fallback = bad[i],
+                 .room = 2, .wanted = {5, 0, 0}},
+            };
+            TRY_ALL(examples);
+        }
+}
+
 /* ---- what the rows leave out of good input */
 static const example accepted[] = {
     {.name = "L B R", .functions = CUT, .classes = BYTES(L, B, R), .wanted = {0, 0, 2}},
@@ -210,7 +275,7 @@ static const example accepted[] = {
     {.name = "B CR B", .functions = CUT, .classes = BYTES(B, CR, B), .wanted = {0, 0, 1}},
     {.name = "CR and an unknown class after it", .functions = CUT, .classes = BYTES(CR, CLASSES), .wanted = {0, 0, 1}},
     {.name = "CR B and an unknown class", .functions = CUT, .classes = BYTES(CR, B, CLASSES), .wanted = {0, 0, 2}},
-    {.name = "WS EN", .functions = BASE, .classes = BYTES(WS, EN), .wanted = {0, 0, 0}},
+    {.name = "WS EN", .functions = BASE, .classes = BYTES(WS, EN), .wanted = {0, 0, NONE}},
     {.name = "AL CR B", .functions = BASE, .classes = BYTES(AL, CR, B), .wanted = {0, 0, 1}},
     {.name = "LRE AL B", .functions = BASE, .classes = BYTES(LRE, AL, B), .wanted = {0, 0, 1}},
     {.name = "RLE L PDF R", .functions = EXPLICIT, .classes = BYTES(RLE, L, PDF, R), .room = 6,
@@ -270,6 +335,17 @@ static const example refused[] = {
      .wanted = {7, 0, 0}},
     {.name = "request 3, no room", .functions = LEVELS, .classes = BYTES(L, R), .base = 3, .wanted = {5, 0, 0}},
     {.name = "room for 1 of 2", .functions = LEVELS, .classes = BYTES(L, R), .room = 1, .wanted = {6, 0, 0}},
+    {.name = "request 3, default 1", .functions = LEVELS, .classes = BYTES(EN), .base = 3, .fallback = 1, .room = 1,
+     .wanted = {5, 0, 0}},
+    {.name = "default 2, room for 1 of 2", .functions = LEVELS, .classes = BYTES(EN, EN), .base = TEXT, .fallback = 2,
+     .room = 1, .wanted = {5, 0, 0}},
+    {.name = "default 1, room for 1 of 2", .functions = LEVELS, .classes = BYTES(EN, EN), .base = TEXT, .fallback = 1,
+     .room = 1, .wanted = {6, 0, 0}},
+    {.name = "default 2, no classes", .functions = LEVELS, .base = TEXT, .fallback = 2, .wanted = {1, 0, 0}},
+    {.name = "default 2, EN 20", .functions = LEVELS, .classes = BYTES(EN, CLASSES), .base = TEXT, .fallback = 2,
+     .room = 2, .wanted = {2, 1, 0}},
+    {.name = "default 2, EN B EN", .functions = LEVELS, .classes = BYTES(EN, B, EN), .base = TEXT, .fallback = 2,
+     .room = 3, .wanted = {4, 1, 0}},
     {.name = "base 2, one level", .functions = ORDER, .classes = BYTES(L, R), .base = 2, .levels = BYTES(0),
      .wanted = {5, 0, 0}},
     {.name = "one level, and that one bad", .functions = ORDER, .classes = BYTES(L, R), .levels = BYTES(63),
@@ -380,12 +456,15 @@ static void try_most_marks(void)
 /* ---- the longest paragraph, and one position more */
 static void try_longest(void)
 {
-    static uint8_t zeros[LONGEST + 1], unknown_last[LONGEST + 1];
+    static uint8_t zeros[LONGEST + 1], unknown_last[LONGEST + 1], numbers[LONGEST], r_last[LONGEST];
     static uint16_t counted[LONGEST];
     static const uint16_t end = LONGEST;
     for (int i = 0; i < LONGEST; i++)
         counted[i] = (uint16_t)i;
     unknown_last[LONGEST] = CLASSES;
+    memset(numbers, EN, LONGEST);
+    memset(r_last, EN, LONGEST - 1);
+    r_last[LONGEST - 1] = R;
     const bytes longest = {zeros, LONGEST}, longer = {zeros, LONGEST + 1};
     const places whole = {counted, LONGEST};
     const example examples[] = {
@@ -394,7 +473,9 @@ static void try_longest(void)
         {.name = "4096 L", .functions = LEVELS, .classes = longest, .room = LONGEST, .wanted_levels = longest},
         {.name = "4096 L", .functions = ORDER, .classes = longest, .levels = longest, .to = LONGEST,
          .ends = {&end, 1}, .room = LONGEST, .wanted = {0, 0, LONGEST}, .wanted_order = whole},
-        {.name = "4097 L", .functions = ALL, .classes = longer, .base = 3, .wanted = {3, 0, 0}},
+        {.name = "4096 EN", .functions = BASE, .classes = {numbers, LONGEST}, .wanted = {0, 0, NONE}},
+        {.name = "4095 EN R", .functions = BASE, .classes = {r_last, LONGEST}, .wanted = {0, 0, 1}},
+        {.name = "4097 L", .functions = ALL, .classes = longer, .base = 3, .fallback = 2, .wanted = {3, 0, 0}},
         {.name = "4096 L 20", .functions = ALL, .classes = {unknown_last, LONGEST + 1}, .wanted = {3, 0, 0}},
     };
     TRY_ALL(examples);
@@ -451,10 +532,10 @@ static void try_null(void)
     const melvorash_answer short_buffer = {16, 0, 0};
     judge("cut", "null", melvorash_cut(NULL, 0), none, 1);
     judge("base", "null", melvorash_base(NULL, 0), none, 1);
-    judge("explicit", "null", melvorash_explicit(NULL, 0, 0, NULL, 0), none, 1);
-    judge("explicit", "null levels", melvorash_explicit(&l, 1, 0, NULL, 0), no_levels, 1);
-    judge("resolve", "null", melvorash_resolve(NULL, 0, 0, NULL, 0), none, 1);
-    judge("resolve", "null levels", melvorash_resolve(&l, 1, 0, NULL, 0), no_levels, 1);
+    judge("explicit", "null", melvorash_explicit(NULL, 0, 0, 0, NULL, 0), none, 1);
+    judge("explicit", "null levels", melvorash_explicit(&l, 1, 0, 0, NULL, 0), no_levels, 1);
+    judge("resolve", "null", melvorash_resolve(NULL, 0, 0, 0, NULL, 0), none, 1);
+    judge("resolve", "null levels", melvorash_resolve(&l, 1, 0, 0, NULL, 0), no_levels, 1);
     judge("order_line", "null", melvorash_order_line(NULL, 0, NULL, 0, 0, 0, 1, NULL, 0), none, 1);
     judge("order_line", "null levels", melvorash_order_line(&l, 1, NULL, 0, 0, 0, 1, NULL, 0), no_levels, 1);
     judge("order_line", "null order", melvorash_order_line(&l, 1, &l, 1, 0, 0, 1, NULL, 0), no_order, 1);
@@ -472,8 +553,11 @@ int main(void)
         try_row(&rows[i]);
     for (size_t i = 0; i < sizeof cr_rows / sizeof *cr_rows; i++)
         try_row(&cr_rows[i]);
+    for (size_t i = 0; i < sizeof texts / sizeof *texts; i++)
+        try_text(&texts[i]);
     TRY_ALL(accepted);
     TRY_ALL(refused);
+    try_bad_defaults();
     for (size_t i = 0; i < sizeof stacks / sizeof *stacks; i++)
         try_stack(&stacks[i]);
     TRY_ALL(refused_marks);

@@ -6,8 +6,8 @@
 
 void module_cut(melvorash_answer *, const uint8_t *, size_t);
 void module_base(melvorash_answer *, const uint8_t *, size_t);
-void module_explicit(melvorash_answer *, const uint8_t *, size_t, uint8_t, uint8_t *, size_t);
-void module_resolve(melvorash_answer *, const uint8_t *, size_t, uint8_t, uint8_t *, size_t);
+void module_explicit(melvorash_answer *, const uint8_t *, size_t, uint8_t, uint8_t, uint8_t *, size_t);
+void module_resolve(melvorash_answer *, const uint8_t *, size_t, uint8_t, uint8_t, uint8_t *, size_t);
 void module_order_line(melvorash_answer *, const uint8_t *, size_t, const uint8_t *, size_t, uint8_t, size_t,
                        size_t, uint16_t *, size_t);
 void module_order_lines(melvorash_answer *, const uint8_t *, size_t, const uint8_t *, size_t, uint8_t,
@@ -28,19 +28,19 @@ melvorash_answer melvorash_base(const uint8_t *classes, size_t class_count)
     return answer;
 }
 
-melvorash_answer melvorash_explicit(const uint8_t *classes, size_t class_count, uint8_t request, uint8_t *levels,
-                                    size_t level_count)
+melvorash_answer melvorash_explicit(const uint8_t *classes, size_t class_count, uint8_t request, uint8_t fallback,
+                                    uint8_t *levels, size_t level_count)
 {
     melvorash_answer answer;
-    module_explicit(&answer, classes, class_count, request, levels, level_count);
+    module_explicit(&answer, classes, class_count, request, fallback, levels, level_count);
     return answer;
 }
 
-melvorash_answer melvorash_resolve(const uint8_t *classes, size_t class_count, uint8_t request, uint8_t *levels,
-                                   size_t level_count)
+melvorash_answer melvorash_resolve(const uint8_t *classes, size_t class_count, uint8_t request, uint8_t fallback,
+                                   uint8_t *levels, size_t level_count)
 {
     melvorash_answer answer;
-    module_resolve(&answer, classes, class_count, request, levels, level_count);
+    module_resolve(&answer, classes, class_count, request, fallback, levels, level_count);
     return answer;
 }
 

@@ -17,7 +17,7 @@ fn shown(label: &[char]) -> Result<String, Refusal> {
     let classes: Vec<u8> = label.iter().map(|&character| class_of(character).number()).collect();
     let mut levels = vec![0; label.len()];
     let mut order = vec![0; label.len()];
-    let base = melvorash::resolve_levels(&classes, melvorash::BY_TEXT, &mut levels)?;
+    let base = melvorash::resolve_levels(&classes, melvorash::BY_TEXT, 0, &mut levels)?;
     let placed = melvorash::order_line(&classes, &levels, base, 0, label.len(), &mut order)?;
     Ok(order[..placed].iter().map(|&position| label[usize::from(position)]).collect())
 }

@@ -80,7 +80,7 @@ fn main() {
     let classes = CLASSES.map(Class::number);
     let mut levels = [0; 10];
     let base =
-        melvorash::resolve_levels(&classes, melvorash::BY_TEXT, &mut levels).expect("the label is sound");
+        melvorash::resolve_levels(&classes, melvorash::BY_TEXT, 0, &mut levels).expect("the label is sound");
     let mut order = [0; 10];
     let count = melvorash::order_line(&classes, &levels, base, 0, 10, &mut order).expect("so is its line");
     assert_eq!(count, 10, "nothing is removed");

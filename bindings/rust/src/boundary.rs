@@ -10,12 +10,15 @@ pub(crate) struct Answer {
     pub(crate) value: usize,
 }
 
+/// What `base` answers where the paragraph has no strong class.
+pub(crate) const NONE_FOUND: u8 = 2;
+
 #[rustfmt::skip]
 extern "C" {
     fn melvorash_cut(classes: *const u8, class_count: usize) -> Answer;
     fn melvorash_base(classes: *const u8, class_count: usize) -> Answer;
-    fn melvorash_explicit(classes: *const u8, class_count: usize, request: u8, levels: *mut u8, level_count: usize) -> Answer;
-    fn melvorash_resolve(classes: *const u8, class_count: usize, request: u8, levels: *mut u8, level_count: usize) -> Answer;
+    fn melvorash_explicit(classes: *const u8, class_count: usize, request: u8, fallback: u8, levels: *mut u8, level_count: usize) -> Answer;
+    fn melvorash_resolve(classes: *const u8, class_count: usize, request: u8, fallback: u8, levels: *mut u8, level_count: usize) -> Answer;
     fn melvorash_order_line(classes: *const u8, class_count: usize, levels: *const u8, level_count: usize, base: u8, from: usize, to: usize, order: *mut u16, order_count: usize) -> Answer;
     fn melvorash_order_lines(classes: *const u8, class_count: usize, levels: *const u8, level_count: usize, base: u8, ends: *const u16, end_count: usize, order: *mut u16, order_count: usize) -> Answer;
     fn melvorash_marks(classes: *const u8, class_count: usize, flags: *const u8, flag_count: usize, order: *mut u16, order_count: usize) -> Answer;
@@ -29,12 +32,30 @@ pub(crate) fn base(classes: &[u8]) -> Answer {
     unsafe { melvorash_base(classes.as_ptr(), classes.len()) }
 }
 
-pub(crate) fn explicit(classes: &[u8], request: u8, levels: &mut [u8]) -> Answer {
-    unsafe { melvorash_explicit(classes.as_ptr(), classes.len(), request, levels.as_mut_ptr(), levels.len()) }
+pub(crate) fn explicit(classes: &[u8], request: u8, fallback: u8, levels: &mut [u8]) -> Answer {
+    unsafe {
+        melvorash_explicit(
+            classes.as_ptr(),
+            classes.len(),
+            request,
+            fallback,
+            levels.as_mut_ptr(),
+            levels.len(),
+        )
+    }
 }
 
-pub(crate) fn resolve(classes: &[u8], request: u8, levels: &mut [u8]) -> Answer {
-    unsafe { melvorash_resolve(classes.as_ptr(), classes.len(), request, levels.as_mut_ptr(), levels.len()) }
+pub(crate) fn resolve(classes: &[u8], request: u8, fallback: u8, levels: &mut [u8]) -> Answer {
+    unsafe {
+        melvorash_resolve(
+            classes.as_ptr(),
+            classes.len(),
+            request,
+            fallback,
+            levels.as_mut_ptr(),
+            levels.len(),
+        )
+    }
 }
 
 pub(crate) fn order_line(

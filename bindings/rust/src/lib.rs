@@ -9,7 +9,7 @@
 //!
 //! let classes = [R, WS, EN, ET].map(melvorash::Class::number);
 //! let (mut levels, mut order) = ([0; 4], [0; 4]);
-//! let base = melvorash::resolve_levels(&classes, melvorash::BY_TEXT, &mut levels)?;
+//! let base = melvorash::resolve_levels(&classes, melvorash::BY_TEXT, 0, &mut levels)?;
 //! let placed = melvorash::order_line(&classes, &levels, base, 0, 4, &mut order)?;
 //! assert_eq!((base, levels), (1, [1, 1, 2, 2]));
 //! assert_eq!(order[..placed], [2, 3, 1, 0]);
@@ -33,7 +33,7 @@ use refusal::outcome;
 pub const LEFT_TO_RIGHT: u8 = 0;
 /// The request for base level 1.
 pub const RIGHT_TO_LEFT: u8 = 1;
-/// The request for the base level that the first L, R or AL of the text asks for.
+/// The request for the base level that the first L, R or AL of the text asks for, or else the default.
 pub const BY_TEXT: u8 = 2;
 /// The level of a removed position, one of class LRE, LRO, RLE, RLO, PDF or BN.
 pub const REMOVED: u8 = 255;
@@ -58,21 +58,38 @@ pub fn cut_part(classes: &[u8]) -> &[u8] {
     &classes[..cut(classes).unwrap_or(0)]
 }
 
-/// The base level of one paragraph by its text, 0 or 1.
-pub fn base(classes: &[u8]) -> Result<u8, Refusal> {
-    level(boundary::base(classes))
+/// The base level of one paragraph by its text, 0 or 1, or none found where it has no L, R or AL.
+///
+/// ```
+/// use melvorash::Class::{AL, EN, WS};
+///
+/// assert_eq!(melvorash::base(&[EN, WS, AL].map(melvorash::Class::number)), Ok(Some(1)));
+/// assert_eq!(melvorash::base(&[EN, WS].map(melvorash::Class::number)), Ok(None));
+/// ```
+pub fn base(classes: &[u8]) -> Result<Option<u8>, Refusal> {
+    level(boundary::base(classes)).map(|found| (found != boundary::NONE_FOUND).then_some(found))
 }
 
 /// Writes a level for each position as it stands after X1 to X9, and nothing after them. Answers the base
-/// level used.
-pub fn explicit_levels(classes: &[u8], request: u8, levels: &mut [u8]) -> Result<u8, Refusal> {
-    level(boundary::explicit(classes, request, levels))
+/// level used: the request itself, or by the text what [`base`] finds, or else `fallback`, the default. That is
+/// 0 or 1 with every request, also where it is not used.
+pub fn explicit_levels(classes: &[u8], request: u8, fallback: u8, levels: &mut [u8]) -> Result<u8, Refusal> {
+    level(boundary::explicit(classes, request, fallback, levels))
 }
 
-/// Writes a level for each position as it stands after I1 and I2, and nothing after them. Answers the base
-/// level used.
-pub fn resolve_levels(classes: &[u8], request: u8, levels: &mut [u8]) -> Result<u8, Refusal> {
-    level(boundary::resolve(classes, request, levels))
+/// Writes a level for each position as it stands after I1 and I2, and nothing after them. Request, default and
+/// answer are those of [`explicit_levels`].
+///
+/// ```
+/// // a number alone: its base level is the default
+/// let classes = [melvorash::Class::EN.number()];
+/// let mut levels = [0];
+/// let base = melvorash::resolve_levels(&classes, melvorash::BY_TEXT, 1, &mut levels)?;
+/// assert_eq!((base, levels), (1, [2]));
+/// # Ok::<(), melvorash::Refusal>(())
+/// ```
+pub fn resolve_levels(classes: &[u8], request: u8, fallback: u8, levels: &mut [u8]) -> Result<u8, Refusal> {
+    level(boundary::resolve(classes, request, fallback, levels))
 }
 
 /// Writes the kept positions of the line `from..to` from left to right, and nothing after them. Takes the
@@ -119,7 +136,7 @@ pub fn marks(classes: &[u8], flags: &[u8], order: &mut [u16]) -> Result<usize, R
     outcome(boundary::marks(classes, flags, order))
 }
 
-/// A base level is 0 or 1, so it fits a byte.
+/// A base level is 0 or 1, and none found is 2, so they fit a byte.
 fn level(answer: boundary::Answer) -> Result<u8, Refusal> {
     outcome(answer).map(|level| level as u8)
 }

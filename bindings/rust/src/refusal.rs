@@ -19,7 +19,7 @@ pub enum Refusal {
     TooLong,
     /// B or CR stands before the last position, and is no CR that a last B follows directly.
     EarlySeparator(usize),
-    /// The base request is above 2, or the base of an order above 1.
+    /// The base request is above 2, or the default above 1 with any request, or the base of an order above 1.
     BadBase,
     /// The level buffer has fewer positions than the paragraph.
     ShortLevels,

@@ -6,6 +6,8 @@ use melvorash::{BY_TEXT, LONGEST, REMOVED};
 const CLASSES: [Class; 20] =
     [L, LRE, LRO, R, AL, RLE, RLO, PDF, EN, ES, ET, AN, CS, NSM, BN, B, S, WS, ON, CR];
 const X: u8 = REMOVED;
+/// How an outcome has it that Base found none.
+const NONE: usize = usize::MAX;
 
 /// What a buffer holds where nothing was written.
 const UNTOUCHED: u8 = 0xA5;
@@ -39,6 +41,8 @@ struct Lent {
     classes: Vec<u8>,
     /// a base request, or the base of an order
     base: u8,
+    /// the default that goes with a request
+    fallback: u8,
     levels: Vec<u8>,
     from: usize,
     to: usize,
@@ -70,12 +74,12 @@ fn run(job: Job, given: &Lent) -> Outcome {
     let levels = &mut left.levels[..lent.room];
     let order = &mut left.order[..lent.room];
     let wide = |level: u8| usize::from(level);
-    let Lent { classes, base, levels: resolved, from, to, ends, flags, .. } = &lent;
+    let Lent { classes, base, fallback, levels: resolved, from, to, ends, flags, .. } = &lent;
     left.answer = match job {
         Cut => melvorash::cut(classes),
-        Base => melvorash::base(classes).map(wide),
-        Explicit => melvorash::explicit_levels(classes, *base, levels).map(wide),
-        Resolve => melvorash::resolve_levels(classes, *base, levels).map(wide),
+        Base => melvorash::base(classes).map(|found| found.map_or(NONE, wide)),
+        Explicit => melvorash::explicit_levels(classes, *base, *fallback, levels).map(wide),
+        Resolve => melvorash::resolve_levels(classes, *base, *fallback, levels).map(wide),
         OrderLine => melvorash::order_line(classes, resolved, *base, *from, *to, order),
         OrderLines => melvorash::order_lines(classes, resolved, *base, ends, order),
         Marks => melvorash::marks(classes, flags, order),
@@ -198,9 +202,70 @@ fn paragraphs_are_cut_behind_a_cr_and_its_b() {
 
 #[test]
 fn base_is_by_the_text() {
-    for (names, level) in [("WS EN", 0), ("LRE AL B", 1), ("NSM R L", 1), ("L R", 0), ("AL CR B", 1)] {
-        assert_eq!(melvorash::base(&classes(names)), Ok(level));
+    for (names, level) in
+        [("L", 0), ("R", 1), ("AL", 1), ("L R", 0), ("NSM R L", 1), ("LRE AL B", 1), ("AL CR B", 1)]
+    {
+        assert_eq!(melvorash::base(&classes(names)), Ok(Some(level)), "{names}");
     }
+    for names in ["EN", "WS EN", "ON WS", "RLE", "LRO EN", "B", "CR", "CR B"] {
+        assert_eq!(melvorash::base(&classes(names)), Ok(None), "{names}");
+    }
+}
+
+/// Classes, the base used by the text with default 0 and 1, the levels at each base: explicit, then resolved.
+type Text = (&'static str, [u8; 2], [&'static [u8]; 2], [&'static [u8]; 2]);
+
+const TEXTS: &[Text] = &[
+    ("EN", [0, 1], [&[0], &[1]], [&[0], &[2]]),
+    ("ON WS", [0, 1], [&[0, 0], &[1, 1]], [&[0, 0], &[1, 1]]),
+    ("RLE", [0, 1], [&[X], &[X]], [&[X], &[X]]),
+    ("RLE EN", [0, 1], [&[X, 1], &[X, 3]], [&[X, 2], &[X, 4]]),
+    ("B", [0, 1], [&[0], &[1]], [&[0], &[1]]),
+    ("CR B", [0, 1], [&[0, 0], &[1, 1]], [&[0, 0], &[1, 1]]),
+    // the text decides
+    ("L", [0, 0], [&[0], &[1]], [&[0], &[2]]),
+    ("R", [1, 1], [&[0], &[1]], [&[1], &[1]]),
+    ("AL", [1, 1], [&[0], &[1]], [&[1], &[1]]),
+    ("EN L R", [0, 0], [&[0, 0, 0], &[1, 1, 1]], [&[0, 0, 1], &[2, 2, 1]]),
+    ("EN AL B", [1, 1], [&[0, 0, 0], &[1, 1, 1]], [&[0, 1, 0], &[2, 1, 1]]),
+];
+
+#[test]
+fn the_default_is_used_where_the_text_decides_nothing() {
+    for &(names, by_text, explicit, resolved) in TEXTS {
+        for (request, used) in (0..).zip([[0, 0], [1, 1], by_text]) {
+            for (fallback, base) in (0..).zip(used) {
+                let classes = classes(names);
+                let lent = Lent { classes, base: request, fallback, room: 5, ..Lent::default() };
+                accepts(Explicit, &lent, base.into(), explicit[usize::from(base)], &[]);
+                accepts(Resolve, &lent, base.into(), resolved[usize::from(base)], &[]);
+            }
+        }
+    }
+}
+
+/// Also where the default would not be used, and in the turn of refusal 5 where there is a second fault.
+#[test]
+fn bad_defaults_are_refused_with_any_request() {
+    let lent = |names, base, fallback, room| Lent {
+        classes: classes(names),
+        base,
+        fallback,
+        room,
+        ..Lent::default()
+    };
+    for request in 0..=3 {
+        for fallback in [2, 3, 255] {
+            refuses(LEVELS, &lent("EN", request, fallback, 2), BadBase);
+            refuses(LEVELS, &lent("L R", request, fallback, 2), BadBase);
+        }
+    }
+    refuses(LEVELS, &lent("EN", 3, 1, 1), BadBase);
+    refuses(LEVELS, &lent("EN EN", BY_TEXT, 2, 1), BadBase);
+    refuses(LEVELS, &lent("EN EN", BY_TEXT, 1, 1), ShortLevels);
+    refuses(LEVELS, &lent("", BY_TEXT, 2, 0), NoClasses);
+    refuses(LEVELS, &lent("EN 20", BY_TEXT, 2, 2), UnknownClass(1));
+    refuses(LEVELS, &lent("EN B EN", BY_TEXT, 2, 3), EarlySeparator(1));
 }
 
 #[test]
@@ -331,7 +396,7 @@ fn bad_classes_are_refused() {
         refuses(CHECKED, &bad(names), EarlySeparator(0));
     }
     refuses(LEVELS, &bad("CR B"), BadBase);
-    let longer = Lent { classes: vec![0; LONGEST + 1], base: 3, ..Lent::default() };
+    let longer = Lent { classes: vec![0; LONGEST + 1], base: 3, fallback: 2, ..Lent::default() };
     refuses(ALL, &longer, TooLong);
     let mut unknown_last = longer;
     unknown_last.classes[LONGEST] = 20;
@@ -398,6 +463,15 @@ fn the_longest_paragraph_is_taken() {
         accepts(OrderLine, &longest, LONGEST, &[], &counted);
         accepts(OrderLines, &longest, LONGEST, &[], &counted);
     }
+}
+
+/// Base looks at every position where it has to.
+#[test]
+fn the_longest_paragraph_has_a_base_or_none() {
+    let mut numbers = vec![EN.number(); LONGEST];
+    assert_eq!(melvorash::base(&numbers), Ok(None));
+    numbers[LONGEST - 1] = R.number();
+    assert_eq!(melvorash::base(&numbers), Ok(Some(1)));
 }
 
 /// CR as the last position that a paragraph may have, and what may follow it.

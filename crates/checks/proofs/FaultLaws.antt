@@ -17,7 +17,7 @@ use Rattle.laws.proofs.Passes.{by-test}
 use Rattle.laws.proofs.Tests.{not-both, and-true, and-false}
 use Rattle.rules.specs.Classes.{B, CR, highestClass, isUnknown, isParagraphEnd}
 use Rattle.rules.specs.Paragraph.{isPair}
-use Rattle.rules.specs.Refusals.{Check, sound, refuse, _andThen_, isEmpty, mayEnd, faultAt, firstFault}
+use Rattle.rules.specs.Refusals.{Check, sound, refuse, _andThen_, mayEnd, faultAt, firstFault}
 use Rattle.rules.proofs.PairLaws.{pair-past}
 use Rattle.checks.specs.Faults.{isFault, closingAt}
 

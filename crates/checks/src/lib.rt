@@ -40,11 +40,14 @@ pub fn check_classes(classes: &[u8]) -> Checked
     first_fault(classes)
 }
 
-// 5, then 6; `room` is how many positions the level buffer has.
-fn check_request(classes: &[u8], request: u8, room: usize) -> Checked
-    ensures { λ r. ⌜ checkOf r ≡ (checkRequest request andThen checkLevelRoom (now (classes .entry)) room) ⌝ }
+// 5, then 6; `room` is how many positions the level buffer has. The default is checked also where it will not be used.
+fn check_request(classes: &[u8], request: u8, fallback: u8, room: usize) -> Checked
+    ensures { λ r. ⌜ checkOf r ≡ (checkRequest request fallback andThen checkLevelRoom (now (classes .entry)) room) ⌝ }
 {
     if 2 < request {
+        return Checked::Refused(whole(BAD_BASE));
+    }
+    if 1 < fallback {
         return Checked::Refused(whole(BAD_BASE));
     }
     if room < classes.len() {
@@ -54,14 +57,14 @@ fn check_request(classes: &[u8], request: u8, room: usize) -> Checked
 }
 
 // The checks of Explicit and Resolve.
-pub fn check_levels(classes: &[u8], request: u8, room: usize) -> Checked
-    ensures { λ r. ⌜ checkOf r ≡ checksOfLevels (now (classes .entry)) request room ⌝ }
+pub fn check_levels(classes: &[u8], request: u8, fallback: u8, room: usize) -> Checked
+    ensures { λ r. ⌜ checkOf r ≡ checksOfLevels (now (classes .entry)) request fallback room ⌝ }
 {
     let first = check_classes(classes);
     if let Checked::Refused(_) = first {
         return first;
     }
-    check_request(classes, request, room)
+    check_request(classes, request, fallback, room)
 }
 
 // 16; `flags` and `places` are how many flags and places Marks is lent.

@@ -18,14 +18,14 @@ pub leaves-written : {A : Type 0} (check : Check) (value wanted : A) (written bu
 leaves-written check value wanted written buffer after e v w = record { told = answer-sound e v; buffer = left-sound buffer e w }
 
 -- Explicit and Resolve: levels by the base that is used
-module _ (levelsBy : ℕ → List ℕ) (cs : List ℕ) (request : ℕ) (levels : List ℕ) where
-  pub levels-refused : (number place : ℕ) → checksOfLevels cs request (length levels) ≡ refuse number place → Leaves (levelsAnswer cs request levels) (whereSound (checksOfLevels cs request (length levels)) (over (levelsBy (baseOf request cs)) levels) levels) (refused number place) levels
+module _ (levelsBy : ℕ → List ℕ) (cs : List ℕ) (request fallback : ℕ) (levels : List ℕ) where
+  pub levels-refused : (number place : ℕ) → checksOfLevels cs request fallback (length levels) ≡ refuse number place → Leaves (levelsAnswer cs request fallback levels) (whereSound (checksOfLevels cs request fallback (length levels)) (over (levelsBy (baseOf request fallback cs)) levels) levels) (refused number place) levels
   unfolding levelsAnswer
   levels-refused number place e =
-      leaves-refused (checksOfLevels cs request (length levels)) number place (baseOf request cs) (over (levelsBy (baseOf request cs)) levels) levels e
+      leaves-refused (checksOfLevels cs request fallback (length levels)) number place (baseOf request fallback cs) (over (levelsBy (baseOf request fallback cs)) levels) levels e
 
-  pub levels-written : (base : ℕ) (after : List ℕ) → checksOfLevels cs request (length levels) ≡ sound → base ≡ baseOf request cs → after ≡ over (levelsBy base) levels → Leaves (levelsAnswer cs request levels) (whereSound (checksOfLevels cs request (length levels)) (over (levelsBy (baseOf request cs)) levels) levels) (accepted base) after
+  pub levels-written : (base : ℕ) (after : List ℕ) → checksOfLevels cs request fallback (length levels) ≡ sound → base ≡ baseOf request fallback cs → after ≡ over (levelsBy base) levels → Leaves (levelsAnswer cs request fallback levels) (whereSound (checksOfLevels cs request fallback (length levels)) (over (levelsBy (baseOf request fallback cs)) levels) levels) (accepted base) after
   unfolding levelsAnswer
   levels-written base after e used wrote =
-      leaves-written (checksOfLevels cs request (length levels)) base (baseOf request cs) (over (levelsBy (baseOf request cs)) levels) levels after e used
+      leaves-written (checksOfLevels cs request fallback (length levels)) base (baseOf request fallback cs) (over (levelsBy (baseOf request fallback cs)) levels) levels after e used
       (wrote ∙ ap (λ (b : ℕ). over (levelsBy b) levels) used)

@@ -3,6 +3,7 @@
 use Prim.Native.Nat.{ℕ}
 use mathlib.Core.Path.{_≡_, refl, sym, ap, _∙_}
 use mathlib.Core.List.{List}
+use mathlib.Core.Option.{Option, none, some}
 use Rattle.rules.specs.Jobs.{Answer, accepted, refused, cutAnswer, cutPart, baseAnswer, levelsAnswer, explicitBuffer, resolveBuffer}
 use Rattle.laws.proofs.Determined.{determined}
 use Rattle.refusals.specs.Page.{refusalWith}
@@ -33,12 +34,14 @@ cut-reads : (r : CutAnswer) → cutBack (cutPage r) ≡ r
 cut-reads (Cutting.Length n) = refl
 cut-reads (Cutting.Refused r) = refl
 
-abbrev baseBack : Answer ℕ → BaseAnswer
-baseBack (accepted n) = Basing.Level n
+abbrev baseBack : Answer (Option ℕ) → BaseAnswer
+baseBack (accepted none) = Basing.NoneFound
+baseBack (accepted (some n)) = Basing.Level n
 baseBack (refused n p) = Basing.Refused (refusalWith n p)
 
 base-reads : (r : BaseAnswer) → baseBack (basePage r) ≡ r
 base-reads (Basing.Level l) = refl
+base-reads Basing.NoneFound = refl
 base-reads (Basing.Refused r) = refl
 
 abbrev levelsBack : Answer ℕ → LevelsAnswer
@@ -67,11 +70,11 @@ base-determined cs {r} {s} p q = told-apart basePage baseBack base-reads r s p q
 pub cut-part-determined : (cs : List ℕ) {x y : List ℕ} → x ≡ cutPart cs → y ≡ cutPart cs → x ≡ y
 cut-part-determined cs p q = determined p q
 
-pub explicit-determined : (cs : List ℕ) (request : ℕ) (levels : List ℕ) {r s : LevelsAnswer} {x y : List ℕ} → Leaves (levelsAnswer cs request levels) (explicitBuffer cs request levels) (levelsPage r) x → Leaves (levelsAnswer cs request levels) (explicitBuffer cs request levels) (levelsPage s) y → (r ≡ s) × (x ≡ y)
-explicit-determined cs request levels p q = leaves-determined levelsPage levelsBack levels-reads p q
+pub explicit-determined : (cs : List ℕ) (request fallback : ℕ) (levels : List ℕ) {r s : LevelsAnswer} {x y : List ℕ} → Leaves (levelsAnswer cs request fallback levels) (explicitBuffer cs request fallback levels) (levelsPage r) x → Leaves (levelsAnswer cs request fallback levels) (explicitBuffer cs request fallback levels) (levelsPage s) y → (r ≡ s) × (x ≡ y)
+explicit-determined cs request fallback levels p q = leaves-determined levelsPage levelsBack levels-reads p q
 
-pub resolve-determined : (cs : List ℕ) (request : ℕ) (levels : List ℕ) {r s : LevelsAnswer} {x y : List ℕ} → Leaves (levelsAnswer cs request levels) (resolveBuffer cs request levels) (levelsPage r) x → Leaves (levelsAnswer cs request levels) (resolveBuffer cs request levels) (levelsPage s) y → (r ≡ s) × (x ≡ y)
-resolve-determined cs request levels p q = leaves-determined levelsPage levelsBack levels-reads p q
+pub resolve-determined : (cs : List ℕ) (request fallback : ℕ) (levels : List ℕ) {r s : LevelsAnswer} {x y : List ℕ} → Leaves (levelsAnswer cs request fallback levels) (resolveBuffer cs request fallback levels) (levelsPage r) x → Leaves (levelsAnswer cs request fallback levels) (resolveBuffer cs request fallback levels) (levelsPage s) y → (r ≡ s) × (x ≡ y)
+resolve-determined cs request fallback levels p q = leaves-determined levelsPage levelsBack levels-reads p q
 
 pub order-line-determined : (cs levels : List ℕ) (base from to : ℕ) (order : List ℕ) {r s : OrderAnswer} {x y : List ℕ} → OrdersLine cs levels base from to order (orderPage r) x → OrdersLine cs levels base from to order (orderPage s) y → (r ≡ s) × (x ≡ y)
 order-line-determined cs levels base from to order p q = leaves-determined orderPage orderBack order-reads (p .leaves) (q .leaves)

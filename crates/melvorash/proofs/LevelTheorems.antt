@@ -18,7 +18,7 @@ use Rattle.laws.specs.Parts.{over}
 use Rattle.rules.specs.Jobs.{Answer, accepted, refused, answered, levelsAnswer, explicitBuffer, resolveBuffer, lineAnswer, linesAnswer}
 use Rattle.laws.proofs.Passes.{by-test}
 use Rattle.rules.proofs.SoundLaws.{never-sound, levels-sound}
-use Rattle.paragraph.proofs.BaseLaws.{baseOf-small}
+use Rattle.rules.proofs.BaseTheorem.{baseOf-small}
 use Rattle.explicit.proofs.ExplicitLaws.{length-levels, kept-low}
 use Rattle.resolve.proofs.BoundLaws.{AtMost, at-most-all, resolved-accepted}
 use Rattle.resolve.proofs.WholeLaws.{length-resolved}
@@ -50,25 +50,28 @@ kept-fit at (c ∷ cs) (l ∷ ls) e =
     (λ r. rw r (level-fits c l r b, kept-fit (suc at) cs ls next)))
 
 -- ---- what Explicit and Resolve leave when they accept
-module _ (cs : List ℕ) (request : ℕ) (levels : List ℕ) (answer : Answer ℕ) (after : List ℕ) (base : ℕ) where
-  module _ (p : Leaves (levelsAnswer cs request levels) (explicitBuffer cs request levels) answer after) (a : answer ≡ accepted base) where
+module _ (cs : List ℕ) (request fallback : ℕ) (levels : List ℕ) (answer : Answer ℕ) (after : List ℕ) (base : ℕ) where
+  module _ (p : Leaves (levelsAnswer cs request fallback levels) (explicitBuffer cs request fallback levels) answer after) (a : answer ≡ accepted base) where
     -- what Explicit writes on kept positions is at most the highest explicit level
     pub explicit-low : AtMost highestExplicit (kept cs after)
     unfolding levelsAnswer explicitBuffer
     explicit-low =
-        let s = accepted-sound (checksOfLevels cs request (length levels)) (baseOf request cs) base (sym (p .told) ∙ a) in
-        let small : baseOf request cs ≤ 1 = baseOf-small request cs (levels-sound cs request (length levels) (s .0) .asked) in
-        let written : after ≡ over (explicitLevels (baseOf request cs) (X1 (baseOf request cs)) cs) levels = p .buffer ∙ rw (s .0) in
-        rw (written, kept-over cs (explicitLevels (baseOf request cs) (X1 (baseOf request cs)) cs) _ (length-levels (baseOf request cs) (X1 (baseOf request cs)) cs))
-        (at-most-all highestExplicit (kept cs (explicitLevels (baseOf request cs) (X1 (baseOf request cs)) cs)) (kept-low (baseOf request cs) cs small))
+        let s = accepted-sound (checksOfLevels cs request fallback (length levels)) (baseOf request fallback cs) base (sym (p .told) ∙ a) in
+        let sounds = levels-sound cs request fallback (length levels) (s .0) in
+        let small : baseOf request fallback cs ≤ 1 = baseOf-small request fallback cs (sounds .asked) (sounds .instead) in
+        let written : after ≡ over (explicitLevels (baseOf request fallback cs) (X1 (baseOf request fallback cs)) cs) levels = p .buffer ∙ rw (s .0) in
+        rw (written, kept-over cs (explicitLevels (baseOf request fallback cs) (X1 (baseOf request fallback cs)) cs) _ (length-levels (baseOf request fallback cs) (X1 (baseOf request fallback cs)) cs))
+        (at-most-all highestExplicit (kept cs (explicitLevels (baseOf request fallback cs) (X1 (baseOf request fallback cs)) cs)) (kept-low (baseOf request fallback cs) cs small))
 
-  module _ (p : Leaves (levelsAnswer cs request levels) (resolveBuffer cs request levels) answer after) (a : answer ≡ accepted base) where
-    resolved : (checksOfLevels cs request (length levels) ≡ sound) × (baseOf request cs ≡ base)
+  module _ (p : Leaves (levelsAnswer cs request fallback levels) (resolveBuffer cs request fallback levels) answer after) (a : answer ≡ accepted base) where
+    resolved : (checksOfLevels cs request fallback (length levels) ≡ sound) × (baseOf request fallback cs ≡ base)
     unfolding levelsAnswer
-    resolved = accepted-sound (checksOfLevels cs request (length levels)) (baseOf request cs) base (sym (p .told) ∙ a)
+    resolved = accepted-sound (checksOfLevels cs request fallback (length levels)) (baseOf request fallback cs) base (sym (p .told) ∙ a)
 
     low : base ≤ 1
-    low = rw (resolved .1) at (baseOf-small request cs (levels-sound cs request (length levels) (resolved .0) .asked))
+    low =
+        let sounds = levels-sound cs request fallback (length levels) (resolved .0) in
+        rw (resolved .1) at (baseOf-small request fallback cs (sounds .asked) (sounds .instead))
 
     written : after ≡ over (resolvedLevels base cs) levels
     unfolding resolveBuffer
@@ -83,7 +86,7 @@ module _ (cs : List ℕ) (request : ℕ) (levels : List ℕ) (answer : Answer �
 
     as-long : length after ≡ length levels
     as-long =
-        let room : length cs ≤ length levels = levels-sound cs request (length levels) (resolved .0) .fits in
+        let room : length cs ≤ length levels = levels-sound cs request fallback (length levels) (resolved .0) .fits in
         ap length written ∙ length-append (resolvedLevels base cs) (drop (length (resolvedLevels base cs)) levels)
         ∙ omega (arith, length-drop (length (resolvedLevels base cs)) levels, length-resolved base cs)
 
@@ -91,7 +94,7 @@ module _ (cs : List ℕ) (request : ℕ) (levels : List ℕ) (answer : Answer �
     pub order-takes-resolved : checksOfOrder cs after base ≡ sound
     unfolding checksOfOrder checkBase checkLevelRoom
     order-takes-resolved =
-        let s = levels-sound cs request (length levels) (resolved .0) in
+        let s = levels-sound cs request fallback (length levels) (resolved .0) in
         let room : length cs ≤ length after = omega (arith, s .fits, as-long) in
         rw (s .classes, le-ltb 1 base low, le-ltb (length after) (length cs) room, none-bad)
 

@@ -2,6 +2,7 @@
 use Prim.Native.Nat.{ℕ}
 use mathlib.Core.Path.{_≡_}
 use mathlib.Core.List.{List}
+use mathlib.Core.Option.{Option, none, some}
 use lib.ListN.{take}
 use Rattle.rules.specs.Line.{lineLevels}
 use Rattle.rules.specs.Jobs.{Answer, accepted, refused, lineAnswer, lineBuffer, linesAnswer, linesBuffer}
@@ -15,13 +16,15 @@ use Rattle.melvorash.specs.declared.answers.LevelsAnswer.the-variants as
 use Rattle.melvorash.specs.declared.answers.OrderAnswer.{OrderAnswer}
 use Rattle.melvorash.specs.declared.answers.OrderAnswer.the-variants as Ordering
 
--- the length, the base level, the base level used or the count of positions placed; or the refusal's number and place
+-- the length, the base level or none found, the base level used or the count of positions placed; or the refusal's number
+-- and place
 abbrev pub cutPage : CutAnswer → Answer ℕ
 cutPage (Cutting.Length n) = accepted n
 cutPage (Cutting.Refused r) = refused (r .number) (r .place)
 
-abbrev pub basePage : BaseAnswer → Answer ℕ
-basePage (Basing.Level l) = accepted l
+abbrev pub basePage : BaseAnswer → Answer (Option ℕ)
+basePage (Basing.Level l) = accepted (some l)
+basePage Basing.NoneFound = accepted none
 basePage (Basing.Refused r) = refused (r .number) (r .place)
 
 abbrev pub levelsPage : LevelsAnswer → Answer ℕ

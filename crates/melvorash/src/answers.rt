@@ -7,9 +7,10 @@ pub enum CutAnswer {
     Refused(Refusal),
 }
 
-// The base level by the text.
+// The base level by the text, or that it decides none.
 pub enum BaseAnswer {
     Level(u8),
+    NoneFound,
     Refused(Refusal),
 }
 

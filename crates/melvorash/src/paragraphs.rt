@@ -1,6 +1,7 @@
 // Cut and Base: the first paragraph of the lent classes, and the base level of one.
 use crate::answers::BaseAnswer;
 use crate::answers::CutAnswer;
+use paragraph::Decided;
 use refusals::Checked;
 use refusals::NO_CLASSES;
 use refusals::TOO_LONG;
@@ -8,7 +9,8 @@ use refusals::UNKNOWN_CLASS;
 ghost use mathlib.Core.Path.{_≡_};
 ghost use Prim.Native.Nat.{_<_};
 ghost use lib.ListN.{length};
-ghost use Rattle.rules.specs.Jobs.{cutAnswer, cutPart, baseAnswer};
+ghost use Rattle.rules.specs.Jobs.{accepted, cutAnswer, cutPart, baseAnswer};
+ghost use Rattle.paragraph.specs.Found.{decidedOf};
 ghost use Rattle.melvorash.specs.Answers.{cutPage, basePage, partLength};
 ghost use Rattle.melvorash.specs.Stops.{stopAt};
 
@@ -67,16 +69,22 @@ pub fn cut_part(classes: &[u8]) -> &[u8]
     &classes[..length]
 }
 
-// The base level of one paragraph, by its text.
+fn base_found(decided: Decided) -> BaseAnswer
+    ensures { λ r. ⌜ basePage r ≡ accepted (decidedOf decided) ⌝ }
+{
+    match decided {
+        Decided::Level(level) => BaseAnswer::Level(level),
+        Decided::Nothing => BaseAnswer::NoneFound,
+    }
+}
+
+// The base level of one paragraph, by its text. That nothing decides it is an answer, so that a caller knows a guess.
 pub fn base(classes: &[u8]) -> BaseAnswer
     ensures { λ r. ⌜ basePage r ≡ baseAnswer (now (classes .entry)) ⌝ }
 {
     let checked = checks::check_classes(classes);
     match checked {
         Checked::Refused(refusal) => BaseAnswer::Refused(refusal),
-        Checked::Sound => {
-            let base = paragraph::base_by_text(classes);
-            BaseAnswer::Level(base)
-        }
+        Checked::Sound => base_found(paragraph::base_by_text(classes)),
     }
 }

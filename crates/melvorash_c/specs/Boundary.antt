@@ -1,10 +1,20 @@
 -- What an exported function promises: what its job promises, with the answer in three numbers.
 use Prim.Native.Nat.{ℕ}
 use mathlib.Core.Path.{_≡_}
+use mathlib.Core.Option.{Option, none, some}
 use lib.Dec.{eqb}
 use Rattle.laws.specs.Choice.{if_then_else_}
 use Rattle.rules.specs.Jobs.{Answer, accepted, refused}
 use Rattle.melvorash_c.specs.declared.answer.Answer as Exported
+
+-- the value where Base finds none; a level is 0 or 1
+abbrev pub noneFound : ℕ
+noneFound = 2
+
+abbrev pub levelOrNone : Answer (Option ℕ) → Answer ℕ
+levelOrNone (accepted none) = accepted noneFound
+levelOrNone (accepted (some level)) = accepted level
+levelOrNone (refused number place) = refused number place
 
 -- the three numbers of an answer: accepted has refusal 0 and place 0, refused has value 0
 abbrev pub numbersOf : Answer ℕ → Exported.Answer

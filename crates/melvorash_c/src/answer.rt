@@ -9,7 +9,7 @@ ghost use mathlib.Core.Path.{_≡_};
 ghost use Rattle.rules.specs.Jobs.{accepted, refused};
 ghost use Rattle.marks.specs.Answers.{marksPage};
 ghost use Rattle.melvorash.specs.Answers.{cutPage, basePage, levelsPage, orderPage};
-ghost use Rattle.melvorash_c.specs.Boundary.{numbersOf};
+ghost use Rattle.melvorash_c.specs.Boundary.{levelOrNone, numbersOf};
 
 // Accepted: refusal 0, place 0 and what the job answers. Refused: the page's number and place, value 0.
 // Three numbers of one width leave no padding, so every byte of an answer is determined.
@@ -19,6 +19,9 @@ pub struct Answer {
     pub place: usize,
     pub value: usize,
 }
+
+// The value where Base finds no level.
+const NONE_FOUND: usize = 2;
 
 // An accepted answer.
 fn of_value(value: usize) -> Answer
@@ -44,7 +47,7 @@ fn of_refusal(refusal: Refusal) -> Answer
     }
 }
 
-// Each job's answer: the paragraph's length, the base level, the base level used, the count of positions placed, the count
+// Each job's answer: the paragraph's length, the base level or none found, the base level used, the count of positions placed, the count
 // of characters drawn.
 pub(crate) fn of_cut(answer: CutAnswer) -> Answer
     ensures { λ r. ⌜ r ≡ numbersOf (cutPage answer) ⌝ }
@@ -56,10 +59,11 @@ pub(crate) fn of_cut(answer: CutAnswer) -> Answer
 }
 
 pub(crate) fn of_base(answer: BaseAnswer) -> Answer
-    ensures { λ r. ⌜ r ≡ numbersOf (basePage answer) ⌝ }
+    ensures { λ r. ⌜ r ≡ numbersOf (levelOrNone (basePage answer)) ⌝ }
 {
     match answer {
         BaseAnswer::Level(level) => of_value(level as usize),
+        BaseAnswer::NoneFound => of_value(NONE_FOUND),
         BaseAnswer::Refused(refusal) => of_refusal(refusal),
     }
 }

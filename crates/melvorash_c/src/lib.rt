@@ -13,7 +13,7 @@ ghost use mathlib.Core.Path.{_≡_};
 ghost use Rattle.rules.specs.Jobs.{cutAnswer, baseAnswer, levelsAnswer, explicitBuffer, resolveBuffer};
 ghost use Rattle.marks.specs.Answers.{DrawsMarks};
 ghost use Rattle.melvorash.specs.Answers.{Leaves, OrdersLine, OrdersLines};
-ghost use Rattle.melvorash_c.specs.Boundary.{Exports};
+ghost use Rattle.melvorash_c.specs.Boundary.{levelOrNone, Exports};
 
 // The first paragraph's length.
 #[no_mangle]
@@ -24,30 +24,40 @@ pub extern "C" fn melvorash_cut(classes: &[u8]) -> Answer
     of_cut(paragraph)
 }
 
-// The base level of one paragraph, by its text.
+// The base level of one paragraph, by its text, or 2 where it decides none.
 #[no_mangle]
 pub extern "C" fn melvorash_base(classes: &[u8]) -> Answer
-    ensures { λ r. ⌜ Exports (λ a. a ≡ baseAnswer (now (classes .entry))) r ⌝ }
+    ensures { λ r. ⌜ Exports (λ a. a ≡ levelOrNone (baseAnswer (now (classes .entry)))) r ⌝ }
 {
     let by_text = melvorash::base(classes);
     of_base(by_text)
 }
 
-// The levels after X1 to X9, and the base level used.
+// The levels after X1 to X9, and the base level used: with request 2 that of the text, or else `fallback`.
 #[no_mangle]
-pub extern "C" fn melvorash_explicit(classes: &[u8], request: u8, levels: &mut [u8]) -> Answer
-    ensures { λ r. ⌜ Exports (λ a. Leaves (levelsAnswer (now (classes .entry)) request (now (levels .entry))) (explicitBuffer (now (classes .entry)) request (now (levels .entry))) a (now (levels .exit))) r ⌝ }
+pub extern "C" fn melvorash_explicit(
+    classes: &[u8],
+    request: u8,
+    fallback: u8,
+    levels: &mut [u8],
+) -> Answer
+    ensures { λ r. ⌜ Exports (λ a. Leaves (levelsAnswer (now (classes .entry)) request fallback (now (levels .entry))) (explicitBuffer (now (classes .entry)) request fallback (now (levels .entry))) a (now (levels .exit))) r ⌝ }
 {
-    let explicit = melvorash::explicit_levels(classes, request, levels);
+    let explicit = melvorash::explicit_levels(classes, request, fallback, levels);
     of_levels(explicit)
 }
 
-// The levels after I1 and I2, and the base level used.
+// The levels after I1 and I2, and the base level used, as above.
 #[no_mangle]
-pub extern "C" fn melvorash_resolve(classes: &[u8], request: u8, levels: &mut [u8]) -> Answer
-    ensures { λ r. ⌜ Exports (λ a. Leaves (levelsAnswer (now (classes .entry)) request (now (levels .entry))) (resolveBuffer (now (classes .entry)) request (now (levels .entry))) a (now (levels .exit))) r ⌝ }
+pub extern "C" fn melvorash_resolve(
+    classes: &[u8],
+    request: u8,
+    fallback: u8,
+    levels: &mut [u8],
+) -> Answer
+    ensures { λ r. ⌜ Exports (λ a. Leaves (levelsAnswer (now (classes .entry)) request fallback (now (levels .entry))) (resolveBuffer (now (classes .entry)) request fallback (now (levels .entry))) a (now (levels .exit))) r ⌝ }
 {
-    let resolved = melvorash::resolve_levels(classes, request, levels);
+    let resolved = melvorash::resolve_levels(classes, request, fallback, levels);
     of_levels(resolved)
 }
 

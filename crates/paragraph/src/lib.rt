@@ -3,8 +3,8 @@
 ghost use mathlib.Core.Path.{_≡_};
 ghost use Prim.Native.Nat.{_+_};
 ghost use lib.ListN.{getD, drop};
-ghost use Rattle.rules.specs.Paragraph.{isPair, P2, P3, baseByText, baseOf};
-ghost use Rattle.paragraph.specs.Found.{foundOf};
+ghost use Rattle.rules.specs.Paragraph.{isPair, P2, P3, baseByText, orElse, baseOf};
+ghost use Rattle.paragraph.specs.Found.{foundOf, decidedOf};
 
 // The request that leaves the base to the text.
 pub const BY_TEXT: u8 = 2;
@@ -41,36 +41,51 @@ pub(crate) fn first_strong(classes: &[u8]) -> FirstStrong
     FirstStrong::Nothing
 }
 
+// What the text says of its base level: nothing where it has no strong class.
+pub enum Decided {
+    Level(u8),
+    Nothing,
+}
+
 // P3.
-pub(crate) fn level_of(found: FirstStrong) -> u8
-    ensures { λ r. ⌜ r ≡ P3 (foundOf found) ⌝ }
+pub(crate) fn level_of(found: FirstStrong) -> Decided
+    ensures { λ r. ⌜ decidedOf r ≡ P3 (foundOf found) ⌝ }
 {
     match found {
         FirstStrong::Class(class) => {
             if class == classes::R {
-                return 1;
+                return Decided::Level(1);
             }
             if class == classes::AL {
-                return 1;
+                return Decided::Level(1);
             }
-            0
+            Decided::Level(0)
         }
-        FirstStrong::Nothing => 0,
+        FirstStrong::Nothing => Decided::Nothing,
     }
 }
 
-pub fn base_by_text(classes: &[u8]) -> u8
-    ensures { λ r. ⌜ r ≡ baseByText (now (classes .entry)) ⌝ }
+pub fn base_by_text(classes: &[u8]) -> Decided
+    ensures { λ r. ⌜ decidedOf r ≡ baseByText (now (classes .entry)) ⌝ }
 {
     level_of(first_strong(classes))
 }
 
-// The base level that a request asks for: itself, or what the text says.
-pub fn base_of(request: u8, classes: &[u8]) -> u8
-    ensures { λ r. ⌜ r ≡ baseOf request (now (classes .entry)) ⌝ }
+fn or_else(decided: Decided, fallback: u8) -> u8
+    ensures { λ r. ⌜ r ≡ orElse (decidedOf decided) fallback ⌝ }
+{
+    match decided {
+        Decided::Level(level) => level,
+        Decided::Nothing => fallback,
+    }
+}
+
+// The base level that a request asks for: itself, or what the text says, or else the default.
+pub fn base_of(request: u8, fallback: u8, classes: &[u8]) -> u8
+    ensures { λ r. ⌜ r ≡ baseOf request fallback (now (classes .entry)) ⌝ }
 {
     if request == BY_TEXT {
-        return base_by_text(classes);
+        return or_else(base_by_text(classes), fallback);
     }
     request
 }

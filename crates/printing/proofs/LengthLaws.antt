@@ -2,6 +2,7 @@
 use Prim.Native.Nat.{ℕ, _≤_, _<_}
 use native.Mathlib.Omega.{arith}
 use mathlib.Core.Path.{_≡_, refl, sym, ap, _∙_}
+use mathlib.Core.Bool.{_||_}
 use mathlib.Core.List.{List, [], _++_, append-nil}
 use borrow.Author.Tests.{ltb-false}
 use lib.Dec.{ltb}
@@ -12,12 +13,12 @@ use Rattle.rules.specs.Line.{lineOrder}
 use Rattle.rules.specs.Refusals.{longestParagraph, Check, sound, refuse, _andThen_, isEmpty, checkSome, checkLength, firstFault, checkClasses, checkRequest, firstBadLevel}
 use Rattle.rules.proofs.ToldLaws.{Told, told-then, told-where, told-faults}
 use Rattle.rules.proofs.SoundLaws.{test-fails, levels-sound}
-use Rattle.paragraph.proofs.BaseLaws.{baseOf-small}
+use Rattle.rules.proofs.BaseTheorem.{baseOf-small}
 use Rattle.resolve.proofs.WholeLaws.{length-resolved}
 use Rattle.resolve.proofs.BoundLaws.{resolved-accepted}
 use Rattle.line.proofs.LineLaws.{length-lineOrder}
 use Rattle.pairwise.proofs.Theorem.{demand3}
-use Rattle.words.specs.Words.{requestOf, classesOf}
+use Rattle.words.specs.Words.{requestOf, fallbackOf, classesOf}
 use Rattle.writing.specs.Text.{baseRow, levelsRow, orderRow}
 use Rattle.writing.proofs.SizeLaws.{base-row-size, levels-row-size, order-row-size, refused-row-size}
 use Rattle.printing.specs.Printing.{paragraphRows, paragraphText, lineText, mostOutput}
@@ -31,15 +32,15 @@ few : (cs : List ℕ) → checkLength cs ≡ sound → length cs ≤ longestPara
 unfolding checkLength
 few cs e = ltb-false longestParagraph (length cs) (test-fails _ _ e)
 
-told-within : (cs : List ℕ) (request : ℕ) → Told (Within longestParagraph) (checkClasses cs andThen checkRequest request)
+told-within : (cs : List ℕ) (request fallback : ℕ) → Told (Within longestParagraph) (checkClasses cs andThen checkRequest request fallback)
 unfolding checkClasses checkSome checkLength checkRequest
-told-within cs request =
+told-within cs request fallback =
     let P = Within longestParagraph in
-    told-then P (checkClasses cs) (checkRequest request)
+    told-then P (checkClasses cs) (checkRequest request fallback)
     (told-then P (checkSome cs) (checkLength cs andThen firstFault 0 cs) (told-where P (isEmpty cs) 1 (omega arith, omega arith))
     (λ e. told-then P (checkLength cs) (firstFault 0 cs) (told-where P (ltb longestParagraph (length cs)) 3 (omega arith, omega arith))
     (λ l. told-faults P longestParagraph (λ n h. ((omega arith, h), (omega arith, h))) 0 cs (omega (arith, few cs l)))))
-    (λ e. told-where P (ltb 2 request) 5 (omega arith, omega arith))
+    (λ e. told-where P (ltb 2 request || ltb 1 fallback) 5 (omega arith, omega arith))
 
 -- ---- three rows: two digits for a level, four for a position
 rows-short : (base : ℕ) (cs : List ℕ) → base ≤ 1 → length cs ≤ longestParagraph → length (paragraphRows base (resolvedLevels base cs) (lineOrder base cs (resolvedLevels base cs) 0 (length cs))) < mostOutput
@@ -56,12 +57,12 @@ rows-short base cs low h =
     let first = length-append (baseRow base) (levelsRow levels) in
     omega (arith, rows, first, base-row-size base low, levels-row-size cs levels long fine, order-row-size order near)
 
-told-short : (check : Check) (cs : List ℕ) (request : ℕ) → (checkClasses cs andThen checkRequest request) ≡ check → Told (Within longestParagraph) check → length (paragraphText request cs) < mostOutput
+told-short : (check : Check) (cs : List ℕ) (request fallback : ℕ) → (checkClasses cs andThen checkRequest request fallback) ≡ check → Told (Within longestParagraph) check → length (paragraphText request fallback cs) < mostOutput
 unfolding paragraphText
-told-short sound cs request e w =
-    let s = levels-sound cs request longestParagraph (checks-told cs request longestParagraph (omega arith) ∙ e) in
-    rw e (rows-short (baseOf request cs) cs (baseOf-small request cs (s .asked)) (s .few))
-told-short (refuse number place) cs request e w =
+told-short sound cs request fallback e w =
+    let s = levels-sound cs request fallback longestParagraph (checks-told cs request fallback longestParagraph (omega arith) ∙ e) in
+    rw e (rows-short (baseOf request fallback cs) cs (baseOf-small request fallback cs (s .asked) (s .instead)) (s .few))
+told-short (refuse number place) cs request fallback e w =
     let size = refused-row-size number place (w .0) (omega (arith, w .1)) in
     rw e (omega (arith, size))
 
@@ -70,4 +71,4 @@ pub line-short : (line : List ℕ) → length (lineText line) < mostOutput
 unfolding lineText
 line-short line =
     let cs = classesOf line in
-    told-short (checkClasses cs andThen checkRequest (requestOf line)) cs (requestOf line) refl (told-within cs (requestOf line))
+    told-short (checkClasses cs andThen checkRequest (requestOf line) (fallbackOf line)) cs (requestOf line) (fallbackOf line) refl (told-within cs (requestOf line) (fallbackOf line))

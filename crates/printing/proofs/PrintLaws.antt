@@ -9,7 +9,7 @@ use lib.Dec.{ltb}
 use lib.ListN.{length, take}
 use lib.Seq.{length-take-le}
 use Rattle.io.specs.Counts.{Counts}
-use Rattle.words.specs.Words.{requestOf, classesOf}
+use Rattle.words.specs.Words.{requestOf, fallbackOf, classesOf}
 use Rattle.words.specs.Read.{ClassesRead}
 use Rattle.writing.specs.Text.{Puts}
 use Rattle.writing.proofs.TextLaws.{puts-whole}
@@ -22,12 +22,12 @@ pub read-within : {line before after : List ℕ} {count : ℕ} → ClassesRead l
 read-within {line} {before} read = front-within (take (length before) (classesOf line)) before (read .count) (read .classes)
 
 -- ---- a line's text is that of the classes that were read of it, one more than the longest paragraph has
-pub line-told : {line before after : List ℕ} {request count : ℕ} → length before ≡ mostClasses → request ≡ requestOf line → ClassesRead line before count after → paragraphText request (take count after) ≡ lineText line
+pub line-told : {line before after : List ℕ} {request fallback count : ℕ} → length before ≡ mostClasses → request ≡ requestOf line → fallback ≡ fallbackOf line → ClassesRead line before count after → paragraphText request fallback (take count after) ≡ lineText line
 unfolding lineText
-line-told {line} {before} {after} {request} {count} long asked read =
+line-told {line} {before} {after} {request} {fallback} {count} long asked instead read =
     let cs = classesOf line in
     let front : take count after ≡ take mostClasses cs = front-is (take (length before) cs) before (read .count) (read .classes) ∙ ap (λ (n : ℕ). take n cs) long in
-    (λ j. paragraphText (asked j) (front j)) ∙ text-of-front (requestOf line) cs
+    (λ j. paragraphText (asked j) (instead j) (front j)) ∙ text-of-front (requestOf line) (fallbackOf line) cs
 
 -- ---- what a line prints into a buffer
 pub prints-nothing : {line before : List ℕ} → length before < mostOutput → Counts 0 before × Prints line before 0 before

@@ -30,41 +30,41 @@ unfolding checkClasses checkSome checkLength
 too-long [] h = absurd (omega arith)
 too-long (c ∷ cs) h = rw (lt-ltb longestParagraph (length (c ∷ cs)) h)
 
-told-too-long : (request : ℕ) (cs : List ℕ) → longestParagraph < length cs → paragraphText request cs ≡ refusedRow 3 0
+told-too-long : (request fallback : ℕ) (cs : List ℕ) → longestParagraph < length cs → paragraphText request fallback cs ≡ refusedRow 3 0
 unfolding paragraphText
-told-too-long request cs h = rw (too-long cs h)
+told-too-long request fallback cs h = rw (too-long cs h)
 
-pub text-of-front : (request : ℕ) (cs : List ℕ) → paragraphText request (take mostClasses cs) ≡ paragraphText request cs
-text-of-front request cs = go (le-or-lt (length cs) mostClasses)
+pub text-of-front : (request fallback : ℕ) (cs : List ℕ) → paragraphText request fallback (take mostClasses cs) ≡ paragraphText request fallback cs
+text-of-front request fallback cs = go (le-or-lt (length cs) mostClasses)
   where
-    go : (length cs ≤ mostClasses) ⊎ (mostClasses < length cs) → paragraphText request (take mostClasses cs) ≡ paragraphText request cs
-    go (inl h) = ap (paragraphText request) (take-all mostClasses cs h)
+    go : (length cs ≤ mostClasses) ⊎ (mostClasses < length cs) → paragraphText request fallback (take mostClasses cs) ≡ paragraphText request fallback cs
+    go (inl h) = ap (paragraphText request fallback) (take-all mostClasses cs h)
     go (inr h) =
-        told-too-long request (take mostClasses cs) (omega (arith, length-take mostClasses cs))
-        ∙ sym (told-too-long request cs (omega arith))
+        told-too-long request fallback (take mostClasses cs) (omega (arith, length-take mostClasses cs))
+        ∙ sym (told-too-long request fallback cs (omega arith))
 
 -- ---- with room for the longest paragraph there is no refusal for want of room
 then-sound : (check : Check) → (check andThen sound) ≡ check
 then-sound sound = refl
 then-sound (refuse number place) = refl
 
-enough-room : (check : Check) (cs : List ℕ) (request room : ℕ) → checkClasses cs ≡ check → longestParagraph ≤ room → checksOfLevels cs request room ≡ (check andThen checkRequest request)
+enough-room : (check : Check) (cs : List ℕ) (request fallback room : ℕ) → checkClasses cs ≡ check → longestParagraph ≤ room → checksOfLevels cs request fallback room ≡ (check andThen checkRequest request fallback)
 unfolding checksOfLevels checkLevelRoom
-enough-room sound cs request room e h =
-    rw (e, le-ltb room (length cs) (omega (arith, classes-length cs e))) (then-sound (checkRequest request))
-enough-room (refuse number place) cs request room e h = rw e
+enough-room sound cs request fallback room e h =
+    rw (e, le-ltb room (length cs) (omega (arith, classes-length cs e))) (then-sound (checkRequest request fallback))
+enough-room (refuse number place) cs request fallback room e h = rw e
 
-pub checks-told : (cs : List ℕ) (request room : ℕ) → longestParagraph ≤ room → checksOfLevels cs request room ≡ (checkClasses cs andThen checkRequest request)
-checks-told cs request room h = enough-room (checkClasses cs) cs request room refl h
+pub checks-told : (cs : List ℕ) (request fallback room : ℕ) → longestParagraph ≤ room → checksOfLevels cs request fallback room ≡ (checkClasses cs andThen checkRequest request fallback)
+checks-told cs request fallback room h = enough-room (checkClasses cs) cs request fallback room refl h
 
-module _ (cs : List ℕ) (request room : ℕ) (h : longestParagraph ≤ room) where
-  pub text-refused : (number place : ℕ) → checksOfLevels cs request room ≡ refuse number place → paragraphText request cs ≡ refusedRow number place
+module _ (cs : List ℕ) (request fallback room : ℕ) (h : longestParagraph ≤ room) where
+  pub text-refused : (number place : ℕ) → checksOfLevels cs request fallback room ≡ refuse number place → paragraphText request fallback cs ≡ refusedRow number place
   unfolding paragraphText
-  text-refused number place e = rw (sym (checks-told cs request room h) ∙ e)
+  text-refused number place e = rw (sym (checks-told cs request fallback room h) ∙ e)
 
-  pub text-sound : (base : ℕ) → baseOf request cs ≡ base → checksOfLevels cs request room ≡ sound → paragraphText request cs ≡ paragraphRows base (resolvedLevels base cs) (lineOrder base cs (resolvedLevels base cs) 0 (length cs))
+  pub text-sound : (base : ℕ) → baseOf request fallback cs ≡ base → checksOfLevels cs request fallback room ≡ sound → paragraphText request fallback cs ≡ paragraphRows base (resolvedLevels base cs) (lineOrder base cs (resolvedLevels base cs) 0 (length cs))
   unfolding paragraphText
-  text-sound base b e = rw (sym (checks-told cs request room h) ∙ e, b)
+  text-sound base b e = rw (sym (checks-told cs request fallback room h) ∙ e, b)
 
 -- ---- the whole paragraph is a line that Order takes
 pub line-taken : (cs levels : List ℕ) (base room : ℕ) → checkClasses cs ≡ sound → checksOfOrder cs levels base ≡ sound → longestParagraph ≤ room → checksOfLine cs levels base 0 (length cs) room ≡ sound
@@ -91,16 +91,16 @@ refused-check : (check : Check) (value number place : ℕ) → answered check va
 refused-check sound value number place e = absurd (never-both e)
 refused-check (refuse m p) value number place e = cc
 
-module _ (cs : List ℕ) (request : ℕ) (levels : List ℕ) (answer : Answer ℕ) (after : List ℕ) (room : longestParagraph ≤ length levels) (l : Leaves (levelsAnswer cs request levels) (resolveBuffer cs request levels) answer after) where
-  pub resolve-refused : (number place : ℕ) → answer ≡ refused number place → refusedRow number place ≡ paragraphText request cs
+module _ (cs : List ℕ) (request fallback : ℕ) (levels : List ℕ) (answer : Answer ℕ) (after : List ℕ) (room : longestParagraph ≤ length levels) (l : Leaves (levelsAnswer cs request fallback levels) (resolveBuffer cs request fallback levels) answer after) where
+  pub resolve-refused : (number place : ℕ) → answer ≡ refused number place → refusedRow number place ≡ paragraphText request fallback cs
   unfolding levelsAnswer
   resolve-refused number place e =
-      sym (text-refused cs request (length levels) room number place (refused-check (checksOfLevels cs request (length levels)) (baseOf request cs) number place (sym (l .told) ∙ e)))
+      sym (text-refused cs request fallback (length levels) room number place (refused-check (checksOfLevels cs request fallback (length levels)) (baseOf request fallback cs) number place (sym (l .told) ∙ e)))
 
   module _ (base : ℕ) (a : answer ≡ accepted base) where
-    checked : (checksOfLevels cs request (length levels) ≡ sound) × (baseOf request cs ≡ base)
+    checked : (checksOfLevels cs request fallback (length levels) ≡ sound) × (baseOf request fallback cs ≡ base)
     unfolding levelsAnswer
-    checked = accepted-sound (checksOfLevels cs request (length levels)) (baseOf request cs) base (sym (l .told) ∙ a)
+    checked = accepted-sound (checksOfLevels cs request fallback (length levels)) (baseOf request fallback cs) base (sym (l .told) ∙ a)
 
     written : after ≡ over (resolvedLevels base cs) levels
     unfolding resolveBuffer
@@ -109,15 +109,15 @@ module _ (cs : List ℕ) (request : ℕ) (levels : List ℕ) (answer : Answer �
     -- Order takes the whole paragraph as a line
     pub resolve-taken : (places : ℕ) → longestParagraph ≤ places → checksOfLine cs after base 0 (length cs) places ≡ sound
     resolve-taken places h =
-        line-taken cs after base places (levels-sound cs request (length levels) (checked .0) .classes) (order-takes-resolved cs request levels answer after base l a) h
+        line-taken cs after base places (levels-sound cs request fallback (length levels) (checked .0) .classes) (order-takes-resolved cs request fallback levels answer after base l a) h
 
-    pub resolve-text : paragraphRows base (take (length cs) after) (lineOrder base cs after 0 (length cs)) ≡ paragraphText request cs
+    pub resolve-text : paragraphRows base (take (length cs) after) (lineOrder base cs after 0 (length cs)) ≡ paragraphText request fallback cs
     resolve-text =
         let long = length-resolved base cs in
         let rest = drop (length (resolvedLevels base cs)) levels in
         let front : take (length cs) after ≡ resolvedLevels base cs = rw (written, sym long) (take-append-seam (resolvedLevels base cs) rest) in
         let same : lineOrder base cs after 0 (length cs) ≡ lineOrder base cs (resolvedLevels base cs) 0 (length cs) = rw written (order-of-front base cs (resolvedLevels base cs) rest long) in
-        (λ j. paragraphRows base (front j) (same j)) ∙ sym (text-sound cs request (length levels) room base (checked .1) (checked .0))
+        (λ j. paragraphRows base (front j) (same j)) ∙ sym (text-sound cs request fallback (length levels) room base (checked .1) (checked .0))
 
 -- ---- the front of a buffer that was written from its first place on
 module _ (text before : List ℕ) {after : List ℕ} {count : ℕ} (n : count ≡ length text) (w : after ≡ over text before) where

@@ -10,7 +10,7 @@ use Rattle.rules.specs.Resolve.{resolvedLevels}
 use Rattle.rules.specs.Line.{lineOrder}
 use Rattle.rules.specs.Refusals.{Check, byCheck, _andThen_, checkClasses, checkRequest, longestParagraph}
 use Rattle.laws.specs.Parts.{over}
-use Rattle.words.specs.Words.{linesOf, requestOf, classesOf}
+use Rattle.words.specs.Words.{linesOf, requestOf, fallbackOf, classesOf}
 use Rattle.writing.specs.Text.{baseRow, levelsRow, orderRow, refusedRow}
 
 -- the rows where the checks find nothing wrong, else the refusal's row
@@ -22,11 +22,11 @@ unfoldable pub paragraphRows : ℕ → List ℕ → List ℕ → List ℕ
 paragraphRows base levels order = baseRow base ++ levelsRow levels ++ orderRow order
 
 -- one paragraph that is one line of display
-unfoldable pub paragraphText : ℕ → List ℕ → List ℕ
-paragraphText request cs =
-    let base = baseOf request cs in
+unfoldable pub paragraphText : ℕ → ℕ → List ℕ → List ℕ
+paragraphText request fallback cs =
+    let base = baseOf request fallback cs in
     let levels = resolvedLevels base cs in
-    toldRows (checkClasses cs andThen checkRequest request) (paragraphRows base levels (lineOrder base cs levels 0 (length cs)))
+    toldRows (checkClasses cs andThen checkRequest request fallback) (paragraphRows base levels (lineOrder base cs levels 0 (length cs)))
 
 -- as many classes of a line are read; one more than the longest paragraph has is enough to refuse a longer one
 abbrev pub mostClasses : ℕ
@@ -34,7 +34,7 @@ mostClasses = longestParagraph + 1
 
 -- the whole output for one line of input
 unfoldable pub lineText : List ℕ → List ℕ
-lineText line = paragraphText (requestOf line) (classesOf line)
+lineText line = paragraphText (requestOf line) (fallbackOf line) (classesOf line)
 
 -- the whole output: at most 65,536 bytes are read, and the lines are handled in turn
 abbrev pub mostInput : ℕ

@@ -46,22 +46,30 @@ fn put_line(
     ensures { λ r. ⌜ Puts (lineText (now (line .entry))) (now (out .entry)) 0 (now (out .exit)) r ⌝ }
 {
     let count = words::read_classes(line, classes);
-    let request = words::read_request(line);
-    put_paragraph(&classes[..count], request, levels, order, out)
+    let asked = words::read_request(line);
+    put_paragraph(
+        &classes[..count],
+        asked.request,
+        asked.fallback,
+        levels,
+        order,
+        out,
+    )
 }
 
 fn put_paragraph(
     classes: &[u8],
     request: u8,
+    fallback: u8,
     levels: &mut [u8],
     order: &mut [u16],
     out: &mut [u8],
 ) -> usize
     requires { ⌜ longestParagraph ≤ length (now levels) ⌝ }
     requires { ⌜ longestParagraph ≤ length (now order) ⌝ }
-    ensures { λ r. ⌜ Puts (paragraphText request (now (classes .entry))) (now (out .entry)) 0 (now (out .exit)) r ⌝ }
+    ensures { λ r. ⌜ Puts (paragraphText request fallback (now (classes .entry))) (now (out .entry)) 0 (now (out .exit)) r ⌝ }
 {
-    let answer = melvorash::resolve_levels(classes, request, levels);
+    let answer = melvorash::resolve_levels(classes, request, fallback, levels);
     match answer {
         LevelsAnswer::Refused(refusal) => put_refusal(refusal, out),
         LevelsAnswer::Base(base) => put_resolved(classes, levels, base, order, out),

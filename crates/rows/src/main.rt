@@ -7,6 +7,8 @@ mod run;
 mod say;
 mod tell;
 
+use words::Asked;
+
 // What a row lends at most: one more than the longest paragraph has.
 const MOST: usize = classes::LONGEST + 1;
 
@@ -62,7 +64,10 @@ fn lend_order(row: &[u8], classes: &[u8], levels: &mut [u8]) {
 fn lend_ends(row: &[u8], classes: &[u8], levels: &mut [u8], order: &mut [u16]) {
     let mut room = [0u16; 8];
     let count = read::numbers(read::field(row, 6), &mut room);
-    let request = (read::number(read::field(row, 5)) % 256) as u8;
+    let asked = Asked {
+        request: (read::number(read::field(row, 5)) % 256) as u8,
+        fallback: (read::number(read::field(row, 7)) % 256) as u8,
+    };
     let jobs = read::field(row, 1);
-    run::jobs(jobs, classes, levels, order, request, &room[..count]);
+    run::jobs(jobs, classes, levels, order, asked, &room[..count]);
 }

@@ -1,6 +1,7 @@
 // The jobs of a row, called on what it lends as they are called from C, so that every answer is three numbers.
 use crate::tell;
 use melvorash_c::Answer;
+use words::Asked;
 
 // Each letter is a job. An order goes by the base that was answered before it, or else by the row's own.
 pub(crate) fn jobs(
@@ -8,13 +9,13 @@ pub(crate) fn jobs(
     classes: &[u8],
     levels: &mut [u8],
     order: &mut [u16],
-    request: u8,
+    asked: Asked,
     ends: &[u16],
 ) {
-    let mut base = request;
+    let mut base = asked.request;
     let mut i = 0;
     while i < jobs.len() {
-        let answer = called(jobs[i], classes, levels, order, request, base, ends);
+        let answer = called(jobs[i], classes, levels, order, asked, base, ends);
         base = tell::answer(jobs[i], answer, classes, levels, order);
         i += 1;
     }
@@ -25,7 +26,7 @@ fn called(
     classes: &[u8],
     levels: &mut [u8],
     order: &mut [u16],
-    request: u8,
+    asked: Asked,
     base: u8,
     ends: &[u16],
 ) -> Answer {
@@ -36,13 +37,13 @@ fn called(
         return melvorash_c::melvorash_cut(classes);
     }
     if job == b'E' {
-        return melvorash_c::melvorash_explicit(classes, request, levels);
+        return melvorash_c::melvorash_explicit(classes, asked.request, asked.fallback, levels);
     }
     if job == b'R' {
-        return melvorash_c::melvorash_resolve(classes, request, levels);
+        return melvorash_c::melvorash_resolve(classes, asked.request, asked.fallback, levels);
     }
     if job == b'Q' {
-        return melvorash_c::melvorash_resolve(classes, request, levels);
+        return melvorash_c::melvorash_resolve(classes, asked.request, asked.fallback, levels);
     }
     ordered(job, classes, levels, order, base, ends)
 }

@@ -1,5 +1,6 @@
 -- Theorems about the definitions alone.
 pub mod LineLaws
+pub mod BaseTheorem
 pub mod PairLaws
 pub mod CutTheorems
 pub mod ClosingTheorem

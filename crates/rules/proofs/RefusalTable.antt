@@ -56,9 +56,13 @@ refusals =
     (checksOfBase (CR ∷ unknown ∷ []) finds refuse 4 0) ∷
     (checksOfBase ((CR ∷ B ∷ []) beyond 2) finds sound) ∷
     (checksOfBase ((CR ∷ B ∷ []) beyond 1) finds refuse 3 0) ∷
-    (checksOfLevels (unknown ∷ []) 3 0 finds refuse 2 0) ∷
-    (checksOfLevels three 3 2 finds refuse 5 0) ∷
-    (checksOfLevels three 2 2 finds refuse 6 0) ∷
+    (checksOfLevels (unknown ∷ []) 3 2 0 finds refuse 2 0) ∷
+    (checksOfLevels three 3 0 2 finds refuse 5 0) ∷
+    (checksOfLevels three 0 2 2 finds refuse 5 0) ∷
+    (checksOfLevels three 1 2 3 finds refuse 5 0) ∷
+    (checksOfLevels three 2 2 3 finds refuse 5 0) ∷
+    (checksOfLevels three 2 1 3 finds sound) ∷
+    (checksOfLevels three 2 1 2 finds refuse 6 0) ∷
     (checksOfLine three [] 2 0 3 3 finds refuse 5 0) ∷
     (checksOfLine three (suc highestResolved ∷ 0 ∷ []) 1 0 3 3 finds refuse 6 0) ∷
     (checksOfLine three (0 ∷ removedLevel ∷ suc highestResolved ∷ []) 1 3 3 3 finds refuse 7 2) ∷

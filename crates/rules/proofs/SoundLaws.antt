@@ -32,21 +32,24 @@ unfolding checkClasses checkSome
 classes-some [] e = absurd (never-sound e)
 classes-some (c ∷ cs) e = omega arith
 
-pub record LevelsSound (cs : List ℕ) (request room : ℕ) : Type 0 where
+pub record LevelsSound (cs : List ℕ) (request fallback room : ℕ) : Type 0 where
   pub classes : checkClasses cs ≡ sound
   pub few : length cs ≤ longestParagraph
   pub asked : request ≤ 2
+  pub instead : fallback ≤ 1
   pub fits : length cs ≤ room
 
-pub levels-sound : (cs : List ℕ) (request room : ℕ) → checksOfLevels cs request room ≡ sound → LevelsSound cs request room
+pub levels-sound : (cs : List ℕ) (request fallback room : ℕ) → checksOfLevels cs request fallback room ≡ sound → LevelsSound cs request fallback room
 unfolding checksOfLevels checkRequest checkLevelRoom
-levels-sound cs request room e =
-    let both = both-sound (checkClasses cs) (checkRequest request andThen checkLevelRoom cs room) e in
-    let later = both-sound (checkRequest request) (checkLevelRoom cs room) (both .1) in
+levels-sound cs request fallback room e =
+    let both = both-sound (checkClasses cs) (checkRequest request fallback andThen checkLevelRoom cs room) e in
+    let later = both-sound (checkRequest request fallback) (checkLevelRoom cs room) (both .1) in
+    let right = neither (ltb 2 request) (ltb 1 fallback) (test-fails _ _ (later .0)) in
     record {
       classes = both .0;
       few = classes-length cs (both .0);
-      asked = ltb-false 2 request (test-fails _ _ (later .0));
+      asked = ltb-false 2 request (right .0);
+      instead = ltb-false 1 fallback (right .1);
       fits = ltb-false room (length cs) (test-fails _ _ (later .1));
     }
 

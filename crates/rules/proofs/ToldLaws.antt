@@ -86,11 +86,11 @@ pub numbered-base : (cs : List ℕ) → Numbered (checksOfBase cs)
 unfolding checksOfBase
 numbered-base cs = numbered-classes cs
 
-pub numbered-levels : (cs : List ℕ) (request room : ℕ) → Numbered (checksOfLevels cs request room)
+pub numbered-levels : (cs : List ℕ) (request fallback room : ℕ) → Numbered (checksOfLevels cs request fallback room)
 unfolding checksOfLevels checkRequest checkLevelRoom
-numbered-levels cs request room =
+numbered-levels cs request fallback room =
     numbered-then (checkClasses cs) _ (numbered-classes cs)
-    (numbered-then (checkRequest request) (checkLevelRoom cs room) (numbered-where (ltb 2 request) 4) (numbered-where (ltb room (length cs)) 5))
+    (numbered-then (checkRequest request fallback) (checkLevelRoom cs room) (numbered-where (ltb 2 request || ltb 1 fallback) 4) (numbered-where (ltb room (length cs)) 5))
 
 numbered-order : (cs levels : List ℕ) (base : ℕ) → Numbered (checksOfOrder cs levels base)
 unfolding checksOfOrder checkBase checkLevelRoom

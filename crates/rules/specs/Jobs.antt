@@ -1,6 +1,7 @@
 -- The jobs: what each answers, and what it leaves in the buffer that it is lent.
 use Prim.Native.Nat.{ℕ}
 use mathlib.Core.List.{List, []}
+use mathlib.Core.Option.{Option}
 use lib.ListN.{length}
 use Rattle.laws.specs.Parts.{over}
 use Rattle.rules.specs.Paragraph.{P1, baseByText, baseOf}
@@ -29,22 +30,24 @@ cutAnswer cs = answered (checksOfCut cs) (length (P1 cs))
 unfoldable pub cutPart : List ℕ → List ℕ
 cutPart cs = whereSound (checksOfCut cs) (P1 cs) []
 
--- Base
-unfoldable pub baseAnswer : List ℕ → Answer ℕ
+-- Base: the level that the text decides, or none found
+unfoldable pub baseAnswer : List ℕ → Answer (Option ℕ)
 baseAnswer cs = answered (checksOfBase cs) (baseByText cs)
 
 -- Explicit and Resolve answer the base level used, and write a level for each position
-unfoldable pub levelsAnswer : List ℕ → ℕ → List ℕ → Answer ℕ
-levelsAnswer cs request levels = answered (checksOfLevels cs request (length levels)) (baseOf request cs)
+unfoldable pub levelsAnswer : List ℕ → ℕ → ℕ → List ℕ → Answer ℕ
+levelsAnswer cs request fallback levels =
+    answered (checksOfLevels cs request fallback (length levels)) (baseOf request fallback cs)
 
-unfoldable pub explicitBuffer : List ℕ → ℕ → List ℕ → List ℕ
-explicitBuffer cs request levels =
-    let base = baseOf request cs in
-    whereSound (checksOfLevels cs request (length levels)) (over (explicitLevels base (X1 base) cs) levels) levels
+unfoldable pub explicitBuffer : List ℕ → ℕ → ℕ → List ℕ → List ℕ
+explicitBuffer cs request fallback levels =
+    let base = baseOf request fallback cs in
+    whereSound (checksOfLevels cs request fallback (length levels)) (over (explicitLevels base (X1 base) cs) levels) levels
 
-unfoldable pub resolveBuffer : List ℕ → ℕ → List ℕ → List ℕ
-resolveBuffer cs request levels =
-    whereSound (checksOfLevels cs request (length levels)) (over (resolvedLevels (baseOf request cs) cs) levels) levels
+unfoldable pub resolveBuffer : List ℕ → ℕ → ℕ → List ℕ → List ℕ
+resolveBuffer cs request fallback levels =
+    let base = baseOf request fallback cs in
+    whereSound (checksOfLevels cs request fallback (length levels)) (over (resolvedLevels base cs) levels) levels
 
 -- Order answers how many positions it ordered, and writes them from left to right
 unfoldable pub lineAnswer : List ℕ → List ℕ → ℕ → ℕ → ℕ → List ℕ → Answer ℕ

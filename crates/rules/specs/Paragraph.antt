@@ -23,14 +23,19 @@ unfoldable pub P2 : List ℕ → Option ℕ
 P2 [] = none
 P2 (c ∷ cs) = if isStrong c then some c else P2 cs
 
--- P3: level 1 where that is R or AL, and 0 otherwise
-unfoldable pub P3 : Option ℕ → ℕ
-P3 none = 0
-P3 (some c) = if eqb c R || eqb c AL then 1 else 0
+-- P3: level 1 where that is R or AL, and 0 where it is L. Where there is none, the text decides nothing
+unfoldable pub P3 : Option ℕ → Option ℕ
+P3 none = none
+P3 (some c) = some (if eqb c R || eqb c AL then 1 else 0)
 
-unfoldable pub baseByText : List ℕ → ℕ
+-- what the text says of its base level: 0, 1, or none found
+unfoldable pub baseByText : List ℕ → Option ℕ
 baseByText cs = P3 (P2 cs)
 
--- a base request is the level 0 or 1 itself, or 2: by the text
-unfoldable pub baseOf : ℕ → List ℕ → ℕ
-baseOf request cs = if eqb request 2 then baseByText cs else request
+abbrev pub orElse : Option ℕ → ℕ → ℕ
+orElse none fallback = fallback
+orElse (some level) fallback = level
+
+-- a base request is the level 0 or 1 itself, or 2: by text, or else by the default, here called fallback
+unfoldable pub baseOf : ℕ → ℕ → List ℕ → ℕ
+baseOf request fallback cs = if eqb request 2 then orElse (baseByText cs) fallback else request

@@ -67,9 +67,9 @@ firstFault at (c ∷ cs) = faultAt at c cs andThen firstFault (suc at) cs
 unfoldable pub checkClasses : List ℕ → Check
 checkClasses cs = checkSome cs andThen checkLength cs andThen firstFault 0 cs
 
--- 5: a base request above 2; in Order, a base above 1
-unfoldable pub checkRequest : ℕ → Check
-checkRequest request = refuseWhere (ltb 2 request) 5
+-- 5: a base request above 2, or a default above 1 with any request; in Order, a base above 1
+unfoldable pub checkRequest : ℕ → ℕ → Check
+checkRequest request fallback = refuseWhere (ltb 2 request || ltb 1 fallback) 5
 
 unfoldable pub checkBase : ℕ → Check
 checkBase base = refuseWhere (ltb 1 base) 5
@@ -112,8 +112,9 @@ checkMarkRoom cs flags room = refuseWhere (ltb flags (length cs) || ltb room (le
 unfoldable pub checksOfBase : List ℕ → Check
 checksOfBase cs = checkClasses cs
 
-unfoldable pub checksOfLevels : List ℕ → ℕ → ℕ → Check
-checksOfLevels cs request room = checkClasses cs andThen checkRequest request andThen checkLevelRoom cs room
+unfoldable pub checksOfLevels : List ℕ → ℕ → ℕ → ℕ → Check
+checksOfLevels cs request fallback room =
+    checkClasses cs andThen checkRequest request fallback andThen checkLevelRoom cs room
 
 unfoldable pub checksOfOrder : List ℕ → List ℕ → ℕ → Check
 checksOfOrder cs levels base =

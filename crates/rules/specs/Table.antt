@@ -26,9 +26,12 @@ pub record Row : Type 0 where
   pub base : Answer ℕ
   pub count : Answer ℕ
 
--- a request by text, and what stands for the page's dash
+-- a request by text, the default that goes with it, and what stands for the page's dash
 abbrev byText : ℕ
 byText = 2
+
+abbrev fallback : ℕ
+fallback = 0
 
 abbrev pub removed : ℕ
 removed = removedLevel
@@ -65,14 +68,14 @@ table =
 abbrev pub computed : Row → Row
 computed r =
     let cs = r .classes in
-    let base = baseOf (r .request) cs in
-    let levels = resolveBuffer cs (r .request) cs in
+    let base = baseOf (r .request) fallback cs in
+    let levels = resolveBuffer cs (r .request) fallback cs in
     record {
       classes = cs;
       request = r .request;
       levels = levels;
       order = take (length (r .order)) (lineBuffer cs levels base 0 (length cs) cs);
-      base = levelsAnswer cs (r .request) cs;
+      base = levelsAnswer cs (r .request) fallback cs;
       count = lineAnswer cs levels base 0 (length cs) cs;
     }
 

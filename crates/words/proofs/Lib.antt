@@ -2,6 +2,7 @@
 pub mod PartLaws
 pub mod WordLaws
 pub mod NameTheorem
+pub mod AskedLaws
 pub mod LineLaws
 pub mod InputLaws
 pub mod Determined

@@ -1,4 +1,4 @@
--- The laws of a line: its request, and its classes while they are read.
+-- The laws of a line: what its first word asks, and its classes while they are read.
 -- Assumes nothing.
 use Prim.Native.Nat.{ℕ, suc, _+_, _-_, _≤_, _<_}
 use native.Mathlib.Omega.{arith}
@@ -7,17 +7,24 @@ use mathlib.Core.List.{List, [], _∷_, map}
 use lib.ListN.{length, take, drop, set}
 use lib.Seq.{take-nil}
 use Rattle.laws.proofs.Filling.{Filled, filled-from, filled-more, filled-all, filled-count}
-use Rattle.words.specs.Words.{space, firstPart, laterParts, partEnd, classNamed, requestNamed, requestOf, classesOf}
+use Rattle.words.specs.Words.{space, partsAt, firstPart, laterParts, partEnd, classNamed, requestNamed, fallbackNamed, requestOf, fallbackOf, classesOf}
 use Rattle.words.specs.Read.{ClassesRead}
 use Rattle.words.proofs.PartLaws.{partsBehind, parts-next, behind-next, behind-end, end-within}
 
--- the first word ends at the first space
+-- the first word ends at the first space: whatever is asked of it
+first-word : (line : List ℕ) (asked : List ℕ → ℕ) {e r : ℕ} → e ≡ partEnd space line 0 → r ≡ asked (take e line) → r ≡ asked (firstPart (partsAt space line))
+first-word line asked {e} {r} at-end named =
+    let from-0 : e ≡ e - 0 = omega arith in
+    named ∙ ap (λ (n : ℕ). asked (take n line)) from-0
+    ∙ ap (λ (ps : List (List ℕ)). asked (firstPart ps)) (sym (parts-next space line 0 e at-end))
+
 pub request-known : (line : List ℕ) {e r : ℕ} → e ≡ partEnd space line 0 → r ≡ requestNamed (take e line) → r ≡ requestOf line
 unfolding requestOf
-request-known line {e} {r} at-end named =
-    let from-0 : e ≡ e - 0 = omega arith in
-    named ∙ ap (λ (n : ℕ). requestNamed (take n line)) from-0
-    ∙ ap (λ (ps : List (List ℕ)). requestNamed (firstPart ps)) (sym (parts-next space line 0 e at-end))
+request-known line at-end named = first-word line requestNamed at-end named
+
+pub fallback-known : (line : List ℕ) {e r : ℕ} → e ≡ partEnd space line 0 → r ≡ fallbackNamed (take e line) → r ≡ fallbackOf line
+unfolding fallbackOf
+fallback-known line at-end named = first-word line fallbackNamed at-end named
 
 -- the classes that the words behind a place name
 abbrev classesBehind : List ℕ → ℕ → List ℕ

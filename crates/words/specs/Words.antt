@@ -3,7 +3,7 @@ use Prim.Native.Nat.{ℕ, _+_}
 use mathlib.Core.Bool.{Bool, true, false, _&&_}
 use mathlib.Core.List.{List, [], _∷_, map}
 use lib.Dec.{eqb}
-use lib.ListN.{length, drop}
+use lib.ListN.{length, getD, drop}
 use Rattle.laws.specs.Choice.{if_then_else_}
 
 -- the bytes that end a line and stand between words
@@ -95,16 +95,39 @@ unknownName = 255
 unfoldable pub classNamed : List ℕ → ℕ
 classNamed word = placeAmong 0 classNames unknownName word
 
--- the requests are the digits 0, 1 and 2, and any other first word is request 3
-abbrev pub requestNames : List (List ℕ)
-requestNames = (48 ∷ []) ∷ (49 ∷ []) ∷ (50 ∷ []) ∷ []
+-- the first words in ASCII, and what each asks: a request, and the default that goes with it. 2 means 20, and any other
+-- word is request 3
+abbrev pub firstWords : List (List ℕ)
+firstWords =
+    (48 ∷ []) ∷  -- 0
+    (49 ∷ []) ∷  -- 1
+    (50 ∷ []) ∷  -- 2
+    (50 ∷ 48 ∷ []) ∷  -- 20
+    (50 ∷ 49 ∷ []) ∷  -- 21
+    []
+
+abbrev pub requestsAsked : List ℕ
+requestsAsked = 0 ∷ 1 ∷ 2 ∷ 2 ∷ 2 ∷ []
+
+abbrev pub fallbacksAsked : List ℕ
+fallbacksAsked = 0 ∷ 0 ∷ 0 ∷ 0 ∷ 1 ∷ []
+
+-- the place of a first word, behind the last one where it is none of them
+unfoldable pub firstWordPlace : List ℕ → ℕ
+firstWordPlace word = placeAmong 0 firstWords 5 word
 
 unfoldable pub requestNamed : List ℕ → ℕ
-requestNamed word = placeAmong 0 requestNames 3 word
+requestNamed word = getD requestsAsked (firstWordPlace word) 3
+
+unfoldable pub fallbackNamed : List ℕ → ℕ
+fallbackNamed word = getD fallbacksAsked (firstWordPlace word) 0
 
 -- a line: its first word is the request, each further word a class. An empty line has no classes
 unfoldable pub requestOf : List ℕ → ℕ
 requestOf line = requestNamed (firstPart (partsAt space line))
+
+unfoldable pub fallbackOf : List ℕ → ℕ
+fallbackOf line = fallbackNamed (firstPart (partsAt space line))
 
 unfoldable pub classesOf : List ℕ → List ℕ
 classesOf line = map classNamed (laterParts (partsAt space line))

@@ -1,10 +1,11 @@
 // Reads the printing program's input: where a line or a word ends, what a word names, and what a line asks.
 ghost use mathlib.Core.Path.{_≡_};
-ghost use Rattle.words.specs.Words.{partEnd, requestOf};
+ghost use Rattle.words.specs.Words.{partEnd, requestOf, fallbackOf};
 ghost use Rattle.words.specs.Read.{ClassesRead};
 
 mod names;
 
+pub use names::Asked;
 pub use names::UNKNOWN_NAME;
 pub use names::class_named;
 pub use names::request_named;
@@ -28,9 +29,10 @@ pub fn part_end(bytes: &[u8], separator: u8, from: usize) -> usize
     end
 }
 
-// The request that a line's first word names.
-pub fn read_request(line: &[u8]) -> u8
-    ensures { λ r. ⌜ r ≡ requestOf (now (line .entry)) ⌝ }
+// What a line's first word asks.
+pub fn read_request(line: &[u8]) -> Asked
+    ensures { λ r. ⌜ r .request ≡ requestOf (now (line .entry)) ⌝ }
+    ensures { λ r. ⌜ r .fallback ≡ fallbackOf (now (line .entry)) ⌝ }
 {
     let end = part_end(line, SPACE, 0);
     request_named(&line[..end])

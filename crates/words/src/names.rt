@@ -2,8 +2,8 @@
 use crate::SPACE;
 ghost use Prim.Native.Nat.{_<_};
 ghost use mathlib.Core.Path.{_≡_};
-ghost use lib.ListN.{length};
-ghost use Rattle.words.specs.Words.{sameWord, placeAmong, classNamed, requestNamed};
+ghost use lib.ListN.{length, getD};
+ghost use Rattle.words.specs.Words.{sameWord, placeAmong, classNamed, requestsAsked, fallbacksAsked, requestNamed, fallbackNamed};
 ghost use Rattle.words.specs.Rows.{nameIn, namesIn};
 
 // The class of a word that names none.
@@ -60,9 +60,42 @@ pub fn class_named(word: &[u8]) -> u8
     )
 }
 
-// The request that a line's first word names; 3 is none that the library takes.
-pub fn request_named(word: &[u8]) -> u8
-    ensures { λ r. ⌜ r ≡ requestNamed (now (word .entry)) ⌝ }
+// What a line's first word asks: a request, and the default that goes with it.
+pub struct Asked {
+    pub request: u8,
+    pub fallback: u8,
+}
+
+// Two words stand before those that leave the base to the text; 3 is no request that the library takes.
+fn request_at(place: u8) -> u8
+    ensures { λ r. ⌜ r ≡ getD requestsAsked place 3 ⌝ }
 {
-    place_among(b"0   1   2   ", 3, word)
+    if place < 2 {
+        return place;
+    }
+    if place < 5 {
+        return 2;
+    }
+    3
+}
+
+// The default is 1 with the last word alone.
+fn fallback_at(place: u8) -> u8
+    ensures { λ r. ⌜ r ≡ getD fallbacksAsked place 0 ⌝ }
+{
+    if place == 4 {
+        return 1;
+    }
+    0
+}
+
+pub fn request_named(word: &[u8]) -> Asked
+    ensures { λ r. ⌜ r .request ≡ requestNamed (now (word .entry)) ⌝ }
+    ensures { λ r. ⌜ r .fallback ≡ fallbackNamed (now (word .entry)) ⌝ }
+{
+    let place = place_among(b"0   1   2   20  21  ", 5, word);
+    Asked {
+        request: request_at(place),
+        fallback: fallback_at(place),
+    }
 }

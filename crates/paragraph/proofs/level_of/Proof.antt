@@ -1,8 +1,7 @@
 -- `paragraph::level_of` meets its contract: each return is one way through the tests on the class found.
 -- Assumes nothing.
 use Rattle.rules.specs.Paragraph.{P3}
-use Rattle.laws.proofs.Tests.{tests}
-use borrow.Author.Tests.{ne-eqb}
+use borrow.Author.Tests.{eq-eqb, ne-eqb}
 use borrow.Author.Needs.{needs}
 use Rattle.paragraph.proofs.level_of.Statement.{statement}
 use Rattle.paragraph.proofs.level_of.Tie as tie
@@ -12,11 +11,11 @@ enum-known-found c = search needs
 
 returns : tie.Need-returns
 unfolding P3
-returns c = search (needs, tests)
+returns c = rw (c .before .before .found .given .1, eq-eqb _ _ (c .if1 .taken))
 
 returns-2 : tie.Need-returns-2
 unfolding P3
-returns-2 c = search (needs, tests)
+returns-2 c = rw (c .before .before .before .found .given .1, ne-eqb _ _ (c .before .if1 .left), eq-eqb _ _ (c .if2 .taken))
 
 enum-told : tie.Need-enum-told
 enum-told c = search needs
@@ -27,7 +26,7 @@ returns-3 c = rw (c .before .before .before .found .given .1, ne-eqb _ _ (c .bef
 
 returns-4 : tie.Need-returns-4
 unfolding P3
-returns-4 c = search (needs, tests)
+returns-4 c = rw (c .enum-told .given .1)
 
 pub level-of-spec : {M : Type 1} → statement M
 level-of-spec =

@@ -36,7 +36,7 @@ same-length-4 : tie.Need-same-length-4
 same-length-4 c = search needs
 
 returns : tie.Need-returns
-returns c = puts-same (line-told (c .before .before .before .before .before .before .before .before .before .before .before .before .before .before .before .before .before .before .before .before .before .pre .0) (c .before .before .before .before .before .before .before .before .before .before .before .read-request .ensures) (c .before .before .before .before .before .before .before .before .before .before .before .before .before .before .read-classes .ensures)) (c .before .before .before .before .before .before .put-paragraph .ensures)
+returns c = puts-same (line-told (c .before .before .before .before .before .before .before .before .before .before .before .before .before .before .before .before .before .before .before .before .before .pre .0) (c .before .before .before .before .before .before .before .before .before .before .before .read-request .ensures .0) (c .before .before .before .before .before .before .before .before .before .before .before .read-request .ensures .1) (c .before .before .before .before .before .before .before .before .before .before .before .before .before .before .read-classes .ensures)) (c .before .before .before .before .before .before .put-paragraph .ensures)
 
 pub put-line-spec : {M : Type 1} → statement M
 put-line-spec =

@@ -21,7 +21,7 @@ enum-known-answer-2 : tie.Need-enum-known-answer-2
 enum-known-answer-2 c = search needs
 
 put-resolved-requires : tie.Need-put-resolved-requires
-put-resolved-requires c κs = resolve-taken _ _ _ _ _ (c .before .before .before .before .before .before .before .before .before .before .before .before .before .before .pre .0) (c .before .before .before .before .before .before .before .before .resolve-levels .ensures) _ (ap levelsPage (c .before .before .before .before .answer2 .given .1)) _ (c .before .before .before .before .before .before .before .before .before .before .before .before .before .before .pre .1)
+put-resolved-requires c κs = resolve-taken _ _ _ _ _ _ (c .before .before .before .before .before .before .before .before .before .before .before .before .before .before .pre .0) (c .before .before .before .before .before .before .before .before .resolve-levels .ensures) _ (ap levelsPage (c .before .before .before .before .answer2 .given .1)) _ (c .before .before .before .before .before .before .before .before .before .before .before .before .before .before .pre .1)
 
 same-length : tie.Need-same-length
 same-length c = search needs
@@ -30,7 +30,7 @@ same-length-2 : tie.Need-same-length-2
 same-length-2 c = search needs
 
 returns : tie.Need-returns
-returns c = puts-same (resolve-refused _ _ _ _ _ (c .before .before .before .before .before .before .before .before .before .before .before .before .before .before .before .pre .0) (c .before .before .before .before .before .before .before .before .before .resolve-levels .ensures) _ _ (ap levelsPage (c .before .before .before .before .before .answer .given .1))) (c .before .before .put-refusal .ensures)
+returns c = puts-same (resolve-refused _ _ _ _ _ _ (c .before .before .before .before .before .before .before .before .before .before .before .before .before .before .before .pre .0) (c .before .before .before .before .before .before .before .before .before .resolve-levels .ensures) _ _ (ap levelsPage (c .before .before .before .before .before .answer .given .1))) (c .before .before .put-refusal .ensures)
 
 same-length-3 : tie.Need-same-length-3
 same-length-3 c = search needs
@@ -42,7 +42,7 @@ same-length-5 : tie.Need-same-length-5
 same-length-5 c = search needs
 
 returns-2 : tie.Need-returns-2
-returns-2 c = puts-same (resolve-text _ _ _ _ _ (c .before .before .before .before .before .before .before .before .before .before .before .before .before .before .before .before .before .before .before .pre .0) (c .before .before .before .before .before .before .before .before .before .before .before .before .before .resolve-levels .ensures) _ (ap levelsPage (c .before .before .before .before .before .before .before .before .before .answer2 .given .1))) (c .before .before .before .before .put-resolved .ensures)
+returns-2 c = puts-same (resolve-text _ _ _ _ _ _ (c .before .before .before .before .before .before .before .before .before .before .before .before .before .before .before .before .before .before .before .pre .0) (c .before .before .before .before .before .before .before .before .before .before .before .before .before .resolve-levels .ensures) _ (ap levelsPage (c .before .before .before .before .before .before .before .before .before .answer2 .given .1))) (c .before .before .before .before .put-resolved .ensures)
 
 pub put-paragraph-spec : {M : Type 1} → statement M
 put-paragraph-spec =

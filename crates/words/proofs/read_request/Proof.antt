@@ -4,7 +4,7 @@ use native.Mathlib.Omega.{arith}
 use mathlib.Core.Path.{sym}
 use lib.Seq.{length-take-le}
 use Rattle.words.proofs.PartLaws.{end-within}
-use Rattle.words.proofs.LineLaws.{request-known}
+use Rattle.words.proofs.LineLaws.{request-known, fallback-known}
 use borrow.Author.Needs.{needs}
 use Rattle.words.proofs.read_request.Statement.{statement}
 use Rattle.words.proofs.read_request.Tie as tie
@@ -19,7 +19,9 @@ request-named-requires : tie.Need-request-named-requires
 request-named-requires c κs = search needs
 
 returns : tie.Need-returns
-returns c = request-known _ (c .before .before .part-end .ensures) (c .request-named .ensures)
+returns c =
+    let at-end = c .before .before .part-end .ensures in
+    (request-known _ at-end (c .request-named .ensures .0), fallback-known _ at-end (c .request-named .ensures .1))
 
 pub read-request-spec : {M : Type 1} → statement M
 read-request-spec =

@@ -6,7 +6,7 @@ use denote.Ref.{now}
 use Rattle.rules.specs.Jobs.{resolveBuffer}
 use Rattle.refusals.specs.Page.{checkOf}
 use Rattle.rules.proofs.SoundLaws.{levels-sound}
-use Rattle.paragraph.proofs.BaseLaws.{baseOf-small}
+use Rattle.rules.proofs.BaseTheorem.{baseOf-small}
 use Rattle.melvorash.proofs.AnswerLaws.{levels-refused, levels-written}
 use Rattle.rules.specs.Resolve.{resolvedLevels}
 use borrow.Author.Needs.{needs}
@@ -27,14 +27,14 @@ base-of-requires c κs = search needs
 
 resolve-levels-requires : tie.Need-resolve-levels-requires
 resolve-levels-requires c κs =
-    let s = levels-sound _ _ _ (sym (c .before .before .before .before .check-levels .ensures) ∙ ap checkOf (c .before .before .enum-told .given .1)) in
-    (rw (c .before .base-of .ensures) (baseOf-small _ _ (s .asked)), s .fits, s .few)
+    let s = levels-sound _ _ _ _ (sym (c .before .before .before .before .check-levels .ensures) ∙ ap checkOf (c .before .before .enum-told .given .1)) in
+    (rw (c .before .base-of .ensures) (baseOf-small _ _ _ (s .asked) (s .instead)), s .fits, s .few)
 
 returns : tie.Need-returns
 unfolding resolveBuffer
 returns c =
     let a = c .before .before .before .before .before .before .args in
-    levels-refused (λ (b : ℕ). resolvedLevels b (now (a .classes))) _ _ _ _ _ (sym (c .before .before .before .check-levels .ensures) ∙ ap checkOf (c .before .checked .given .1))
+    levels-refused (λ (b : ℕ). resolvedLevels b (now (a .classes))) _ _ _ _ _ _ (sym (c .before .before .before .check-levels .ensures) ∙ ap checkOf (c .before .checked .given .1))
 
 same-length : tie.Need-same-length
 same-length c = search needs
@@ -43,7 +43,7 @@ returns-2 : tie.Need-returns-2
 unfolding resolveBuffer
 returns-2 c =
     let a = c .before .before .before .before .before .before .before .before .before .before .args in
-    levels-written (λ (b : ℕ). resolvedLevels b (now (a .classes))) _ _ _ _ _
+    levels-written (λ (b : ℕ). resolvedLevels b (now (a .classes))) _ _ _ _ _ _
     (sym (c .before .before .before .before .before .before .before .check-levels .ensures) ∙ ap checkOf (c .before .before .before .before .before .enum-told .given .1))
     (c .before .before .before .before .base-of .ensures) (c .before .before .resolve-levels .ensures)
 

@@ -21,13 +21,18 @@ enum-told c = search needs
 base-by-text-requires : tie.Need-base-by-text-requires
 base-by-text-requires c κs = search needs
 
+base-found-requires : tie.Need-base-found-requires
+base-found-requires c κs = search needs
+
 returns : tie.Need-returns
 unfolding baseAnswer checksOfBase
 returns c = answer-refused _ (sym (c .before .before .before .check-classes .ensures) ∙ ap checkOf (c .before .checked .given .1))
 
 returns-2 : tie.Need-returns-2
 unfolding baseAnswer checksOfBase
-returns-2 c = answer-sound (sym (c .before .before .before .check-classes .ensures) ∙ ap checkOf (c .before .enum-told .given .1)) (c .base-by-text .ensures)
+returns-2 c =
+    c .base-found .ensures
+    ∙ answer-sound (sym (c .before .before .before .before .check-classes .ensures) ∙ ap checkOf (c .before .before .enum-told .given .1)) (c .before .base-by-text .ensures)
 
 pub base-spec : {M : Type 1} → statement M
 base-spec =
@@ -37,5 +42,6 @@ base-spec =
     enum-known-checked
     enum-told
     base-by-text-requires
+    base-found-requires
     returns
     returns-2)

@@ -1,6 +1,9 @@
--- `words::names::request_named` meets its contract: the names in the text are those of the requests.
+-- `words::names::request_named` meets its contract: the names in the text are the first words.
 -- Assumes nothing.
-use Rattle.words.specs.Words.{partsAt, requestNamed}
+use Prim.Native.Nat.{ℕ}
+use mathlib.Core.Path.{ap, _∙_}
+use lib.ListN.{getD}
+use Rattle.words.specs.Words.{partsAt, requestsAsked, fallbacksAsked, firstWordPlace, requestNamed, fallbackNamed}
 use Rattle.words.specs.Rows.{namesIn}
 use borrow.Author.Needs.{needs}
 use Rattle.words.proofs.names.request_named.Statement.{statement}
@@ -12,9 +15,25 @@ slice-aggregate-place-among c = search needs
 place-among-requires : tie.Need-place-among-requires
 place-among-requires c κs = search needs
 
+request-at-requires : tie.Need-request-at-requires
+request-at-requires c κs = search needs
+
+fallback-at-requires : tie.Need-fallback-at-requires
+fallback-at-requires c κs = search needs
+
 returns : tie.Need-returns
-unfolding partsAt namesIn requestNamed
-returns c = c .place-among .ensures
+unfolding partsAt namesIn firstWordPlace requestNamed fallbackNamed
+returns c = (
+  c .before .request-at .ensures ∙ ap (λ (place : ℕ). getD requestsAsked place 3) (c .before .before .place-among .ensures),
+  c .fallback-at .ensures ∙ ap (λ (place : ℕ). getD fallbacksAsked place 0) (c .before .before .place-among .ensures),
+)
 
 pub request-named-spec : {M : Type 1} → statement M
-request-named-spec = tie.close (tie.spec slice-aggregate-place-among place-among-requires returns)
+request-named-spec =
+    tie.close
+    (tie.spec
+    slice-aggregate-place-among
+    place-among-requires
+    request-at-requires
+    fallback-at-requires
+    returns)
