@@ -7,6 +7,8 @@ use crate::program::{Program, LIBRARY, SECOND};
 use crate::tally::Tally;
 use second::Refused;
 
+/// The file's auto direction is left to right where the text gives none.
+const DEFAULT: u8 = 0;
 /// The bits of a row's set, the request that each stands for, and its name.
 const DIRECTIONS: [(u8, u8, &str); 3] = [(1, 2, "by text"), (2, 0, "left to right"), (4, 1, "right to left")];
 
@@ -96,7 +98,7 @@ fn displayed(program: &Program, classes: &[u8], request: u8) -> Result<Displayed
     let length = classes.len();
     let mut levels = vec![0; length];
     let mut order = vec![0; length];
-    let base = (program.resolve_levels)(classes, request, &mut levels)?;
+    let base = (program.resolve_levels)(classes, request, DEFAULT, &mut levels)?;
     let count = (program.order_line)(classes, &levels, base, 0, length, &mut order)?;
     order.truncate(count);
     Ok(Displayed { levels: second::line_levels(classes, &levels, base, 0, length), order })

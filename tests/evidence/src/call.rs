@@ -21,12 +21,16 @@ pub enum Job {
 pub const JOBS: [Job; 7] =
     [Job::Cut, Job::CutPart, Job::Base, Job::Explicit, Job::Resolve, Job::OrderLine, Job::OrderLines];
 
+/// Base's answer where none is found; no byte, so no level.
+pub const NONE_FOUND: usize = 256;
+
 /// What the jobs are lent to read and how much room they get to write; each takes of it what it has.
 #[derive(Clone, Default)]
 pub struct Input<'a> {
     pub classes: Cow<'a, [u8]>,
-    /// Explicit's and Resolve's
+    /// Explicit's and Resolve's request and default
     pub request: u8,
+    pub fallback: u8,
     /// the places of the level buffer that is filled
     pub level_room: usize,
     /// Order's own base, levels, line and line ends
@@ -60,13 +64,15 @@ impl Input<'_> {
         levels: &mut [u8],
         order: &mut [u16],
     ) -> Result<usize, Refused> {
-        let Input { classes, request, base, levels: lent, from, to, ends, combining, flags, .. } = self;
+        let Input {
+            classes, request, fallback, base, levels: lent, from, to, ends, combining, flags, ..
+        } = self;
         match job {
             Job::Cut => (program.cut)(classes),
             Job::CutPart => length_of_part(classes, (program.cut_part)(classes)),
-            Job::Base => (program.base)(classes).map(usize::from),
-            Job::Explicit => (program.explicit_levels)(classes, *request, levels).map(usize::from),
-            Job::Resolve => (program.resolve_levels)(classes, *request, levels).map(usize::from),
+            Job::Base => (program.base)(classes).map(|found| found.map_or(NONE_FOUND, usize::from)),
+            Job::Explicit => (program.explicit_levels)(classes, *request, *fallback, levels).map(usize::from),
+            Job::Resolve => (program.resolve_levels)(classes, *request, *fallback, levels).map(usize::from),
             Job::OrderLine => (program.order_line)(classes, lent, *base, *from, *to, order),
             Job::OrderLines => (program.order_lines)(classes, lent, *base, ends, order),
             Job::Marks => (program.marks)(combining, flags, order),
@@ -86,7 +92,8 @@ fn length_of_part(classes: &[u8], part: &[u8]) -> Result<usize, Refused> {
 impl fmt::Display for Input<'_> {
     fn fmt(&self, f: &mut fmt::Formatter<'_>) -> fmt::Result {
         writeln!(f, "  classes {}", classes::named(&self.classes))?;
-        writeln!(f, "  request {}, room for levels {}", self.request, self.level_room)?;
+        writeln!(f, "  request {}, default {}", self.request, self.fallback)?;
+        writeln!(f, "  room for levels {}", self.level_room)?;
         writeln!(f, "  base {}, levels {:?}", self.base, self.levels)?;
         writeln!(f, "  from {} to {}, ends {:?}", self.from, self.to, self.ends)?;
         writeln!(f, "  combining classes {:?}, flags {:?}", self.combining, self.flags)?;

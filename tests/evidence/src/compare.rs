@@ -30,7 +30,7 @@ pub fn outcome(program: &Program, job: Job, input: &Input) -> Outcome {
 pub fn compare(tally: &mut Tally, name: &str, job: Job, input: &Input) -> Outcome {
     let library = outcome(&LIBRARY, job, input);
     let second = outcome(&SECOND, job, input);
-    tally.count_answer(library.answer);
+    tally.count_answer(job, library.answer);
     if library != second {
         tally.differ(|| format!("{name}{job:?}\n{input}\n  library {library:?}\n  second  {second:?}"));
     }

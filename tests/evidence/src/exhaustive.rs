@@ -1,4 +1,4 @@
-//! Every short paragraph with every request and every way to cut it into lines.
+//! Every short paragraph with every request and default, and every way to cut it into lines.
 use crate::call::{Input, Job};
 use crate::classes::*;
 use crate::compare::{compare, Outcome};
@@ -9,6 +9,8 @@ const LENGTH: usize = 4;
 /// And one longer over these: the strong classes, what the weak rules change, a blank, an override and its end,
 /// and the separators of a newline.
 const FEWER: [u8; 13] = [L, R, AL, EN, AN, ET, CS, NSM, WS, RLO, PDF, B, CR];
+/// What is no default: the least such number and the greatest.
+const BAD_DEFAULTS: [u8; 2] = [2, 255];
 /// How many places the buffers have that are not needed.
 const MORE_ROOM: usize = 2;
 
@@ -21,8 +23,12 @@ pub fn run() -> bool {
     }
     paragraphs += each_sequence(&FEWER, LENGTH + 1, |classes| try_classes(&mut tally, classes));
     println!(
-        "exhaustive: {paragraphs} class sequences, {} calls of each program, {} differences",
-        tally.calls, tally.differences
+        "exhaustive: {paragraphs} class sequences, {} calls of each program, {} differences; \
+         Base found none {} times; refusals 1 to 10 met: {}",
+        tally.calls,
+        tally.differences,
+        tally.none_found,
+        tally.refusals_met(1..=10)
     );
     tally.differences == 0
 }
@@ -47,21 +53,25 @@ fn try_classes(tally: &mut Tally, classes: &[u8]) {
     for job in [Job::Cut, Job::CutPart, Job::Base] {
         compare(tally, "", job, &input);
     }
-    let asked = [0, 1].map(|base| {
-        let resolved = try_levels(tally, &mut input, base);
-        try_lines(tally, &mut input);
-        resolved
-    });
-    // By the text the levels are those of one of these requests, whose lines have been tried.
-    let by_text = try_levels(tally, &mut input, 2);
-    if !asked.contains(&by_text) {
-        try_lines(tally, &mut input);
+    let mut tried = Vec::new();
+    for request in 0..=2 {
+        for fallback in BAD_DEFAULTS {
+            try_levels(tally, &mut input, request, fallback);
+        }
+        for fallback in 0..=1 {
+            let resolved = try_levels(tally, &mut input, request, fallback);
+            // The lines of the same levels at the same base have been tried.
+            if !tried.contains(&resolved) {
+                try_lines(tally, &mut input);
+                tried.push(resolved);
+            }
+        }
     }
 }
 
 /// Explicit and Resolve; the levels and the base of Resolve become those that Order is lent.
-fn try_levels(tally: &mut Tally, input: &mut Input, request: u8) -> Outcome {
-    input.request = request;
+fn try_levels(tally: &mut Tally, input: &mut Input, request: u8, fallback: u8) -> Outcome {
+    (input.request, input.fallback) = (request, fallback);
     compare(tally, "", Job::Explicit, input);
     let resolved = compare(tally, "", Job::Resolve, input);
     input.base = resolved.answer.map_or(0, |base| base as u8);

@@ -12,6 +12,8 @@ use crate::{marks, shapes, spoil, texts, trap};
 
 /// Every length up to this one, and the longest three.
 const SHORT: usize = 100;
+/// Requests and defaults. With request 0 or 1 the default is the other level, for it must not count.
+const ASKED: [(u8, u8); 4] = [(0, 1), (1, 0), (2, 0), (2, 1)];
 
 /// The buffers that a call may be lent.
 struct Buffers {
@@ -44,34 +46,47 @@ pub fn run() -> bool {
         try_marks(&mut tally, &mut buffers, length);
     }
     println!(
-        "guard: {} calls at memory that may not be touched, {} differences; refusals 1 to 10 and 16 met: {}",
+        "guard: {} calls at memory that may not be touched, {} differences; \
+         Base found none {} times; refusals 1 to 10 and 16 met: {}",
         tally.calls,
         tally.differences,
+        tally.none_found,
         tally.refusals_met((1..=10).chain([16]))
     );
     tally.differences == 0
 }
 
-/// Good input of a length, with each request and with CR, CR and B or anything at its end, and bad input for
-/// each refusal.
+/// Good input of a length, with each request, with CR, CR and B or anything at its end and without a strong
+/// class, and bad input.
 fn try_length(tally: &mut Tally, buffers: &mut Buffers, length: usize) {
     let random = &mut Generator::new(length as u64, 0);
     let mut sound = Input::default();
-    for request in 0..=2 {
-        let paragraphs = [
+    for (request, fallback) in ASKED {
+        let mut paragraphs = [
+            shapes::paragraph_of(random, length),
             shapes::paragraph_with(random, length, &[CR]),
             shapes::paragraph_with(random, length, &[CR, B]),
             shapes::paragraph_of(random, length),
         ];
+        shapes::drop_strong(random, &mut paragraphs[0]);
         for classes in paragraphs {
-            sound = resolved(random, classes, request);
+            sound = resolved(random, classes, request, fallback);
             try_input(tally, buffers, &JOBS, &sound);
         }
     }
+    try_bad(tally, buffers, random, &sound);
+}
+
+/// Bad input for each refusal, and a bad default with each request.
+fn try_bad(tally: &mut Tally, buffers: &mut Buffers, random: &mut Generator, sound: &Input) {
     for number in 1..=10 {
         let mut bad = sound.clone();
         spoil::spoil(random, &mut bad, &[number]);
         try_input(tally, buffers, &JOBS, &bad);
+    }
+    for request in 0..=2 {
+        let bad = Input { request, fallback: spoil::bad_default(random), ..sound.clone() };
+        try_input(tally, buffers, &[Job::Explicit, Job::Resolve], &bad);
     }
 }
 
@@ -98,12 +113,13 @@ fn try_marks(tally: &mut Tally, buffers: &mut Buffers, length: usize) {
 }
 
 /// Sound input with no place more than all jobs need.
-fn resolved(random: &mut Generator, classes: Vec<u8>, request: u8) -> Input<'static> {
+fn resolved(random: &mut Generator, classes: Vec<u8>, request: u8, fallback: u8) -> Input<'static> {
     let length = classes.len();
     let (from, to) = shapes::line(random, length);
     let mut input = Input {
         classes: classes.into(),
         request,
+        fallback,
         level_room: length,
         from,
         to,
@@ -139,7 +155,7 @@ fn try_call(tally: &mut Tally, buffers: &mut Buffers, job: Job, side: Side, inpu
         ..input.clone()
     };
     let answer = trap::named(&name, || guarded.call(&LIBRARY, job, levels, order));
-    tally.count_answer(answer);
+    tally.count_answer(job, answer);
     let second = outcome(&SECOND, job, input);
     if answer != second.answer
         || *levels != second.levels[..level_room]

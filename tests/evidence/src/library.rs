@@ -10,16 +10,16 @@ pub fn cut_part(classes: &[u8]) -> &[u8] {
     melvorash::cut_part(classes)
 }
 
-pub fn base(classes: &[u8]) -> Result<u8, Refused> {
+pub fn base(classes: &[u8]) -> Result<Option<u8>, Refused> {
     melvorash::base(classes).map_err(refused)
 }
 
-pub fn explicit_levels(classes: &[u8], request: u8, levels: &mut [u8]) -> Result<u8, Refused> {
-    melvorash::explicit_levels(classes, request, levels).map_err(refused)
+pub fn explicit_levels(classes: &[u8], request: u8, fallback: u8, levels: &mut [u8]) -> Result<u8, Refused> {
+    melvorash::explicit_levels(classes, request, fallback, levels).map_err(refused)
 }
 
-pub fn resolve_levels(classes: &[u8], request: u8, levels: &mut [u8]) -> Result<u8, Refused> {
-    melvorash::resolve_levels(classes, request, levels).map_err(refused)
+pub fn resolve_levels(classes: &[u8], request: u8, fallback: u8, levels: &mut [u8]) -> Result<u8, Refused> {
+    melvorash::resolve_levels(classes, request, fallback, levels).map_err(refused)
 }
 
 pub fn order_line(

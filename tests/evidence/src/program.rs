@@ -2,7 +2,7 @@
 use crate::library;
 use second::Refused;
 
-pub type Levels = fn(&[u8], u8, &mut [u8]) -> Result<u8, Refused>;
+pub type Levels = fn(&[u8], u8, u8, &mut [u8]) -> Result<u8, Refused>;
 pub type OrderLine = fn(&[u8], &[u8], u8, usize, usize, &mut [u16]) -> Result<usize, Refused>;
 pub type OrderLines = fn(&[u8], &[u8], u8, &[u16], &mut [u16]) -> Result<usize, Refused>;
 pub type Marks = fn(&[u8], &[u8], &mut [u16]) -> Result<usize, Refused>;
@@ -10,7 +10,7 @@ pub type Marks = fn(&[u8], &[u8], &mut [u16]) -> Result<usize, Refused>;
 pub struct Program {
     pub cut: fn(&[u8]) -> Result<usize, Refused>,
     pub cut_part: fn(&[u8]) -> &[u8],
-    pub base: fn(&[u8]) -> Result<u8, Refused>,
+    pub base: fn(&[u8]) -> Result<Option<u8>, Refused>,
     pub explicit_levels: Levels,
     pub resolve_levels: Levels,
     pub order_line: OrderLine,

@@ -33,11 +33,13 @@ pub fn run(options: &Options) -> bool {
     let mut tally = Tally::default();
     each_case(options, &mut tally, |tally, case| Case::new(tally, options.seed, case).run());
     println!(
-        "random: seed {}: {} paragraphs, {} calls of each program, {} differences; refusals 1 to 10 met: {}",
+        "random: seed {}: {} paragraphs, {} calls of each program, {} differences; \
+         Base found none {} times; refusals 1 to 10 met: {}",
         options.seed,
         options.count,
         tally.calls,
         tally.differences,
+        tally.none_found,
         tally.refusals_met(1..=10)
     );
     tally.differences == 0
@@ -97,6 +99,7 @@ impl Case<'_> {
         let mut input = Input {
             classes: classes.into(),
             request: random.byte_between(0, 2),
+            fallback: random.byte_between(0, 1),
             level_room: length + random.between(0, 2),
             from,
             to,

@@ -24,6 +24,9 @@ pub fn paragraph_with(random: &mut Generator, length: usize, end: &[u8]) -> Vec<
         _ => nested(random, length),
     };
     strew_removed(random, &mut classes);
+    if random.one_in(5) {
+        drop_strong(random, &mut classes);
+    }
     let room = end.len().min(length);
     classes[length - room..].copy_from_slice(&end[end.len() - room..]);
     classes
@@ -39,6 +42,8 @@ const NUMBERS: [u8; 12] = [EN, EN, EN, AN, AN, ES, CS, ET, ET, NSM, AL, L];
 const BLANKS: [u8; 10] = [WS, WS, WS, S, ON, L, R, AN, RLO, PDF];
 /// For codes around the deepest level, valid and invalid, and for PDF with nothing to match.
 const CODES: [u8; 14] = [RLE, LRE, RLO, LRO, RLE, LRE, PDF, PDF, PDF, PDF, L, R, EN, WS];
+/// What stands for a strong class where there is to be none: numbers, separators, blanks and codes.
+const NOT_STRONG: [u8; 14] = [EN, EN, AN, ES, CS, ET, NSM, S, WS, ON, RLE, LRO, PDF, BN];
 /// What stands in long stretches.
 const LONG: [u8; 16] = [NSM, NSM, ET, ET, ON, WS, WS, BN, CS, EN, RLE, LRE, RLO, PDF, PDF, AL];
 
@@ -89,6 +94,13 @@ fn strew_removed(random: &mut Generator, classes: &mut [u8]) {
                 *class = random.pick(&[BN, BN, BN, PDF]);
             }
         }
+    }
+}
+
+/// So that the text gives no base.
+pub fn drop_strong(random: &mut Generator, classes: &mut [u8]) {
+    for class in classes.iter_mut().filter(|class| matches!(**class, L | R | AL)) {
+        *class = random.pick(&NOT_STRONG);
     }
 }
 

@@ -86,9 +86,21 @@ fn early_separator(random: &mut Generator, input: &mut Input) {
     }
 }
 
+/// Order's base, and Explicit's and Resolve's request, default, or both.
 fn bad_base(random: &mut Generator, input: &mut Input) {
-    input.request = random.byte_between(3, 255);
     input.base = random.byte_between(2, 255);
+    let fault = random.between(0, 2);
+    if fault != 0 {
+        input.fallback = bad_default(random);
+    }
+    if fault != 1 {
+        input.request = random.byte_between(3, 255);
+    }
+}
+
+pub fn bad_default(random: &mut Generator) -> u8 {
+    let any = random.byte_between(2, 255);
+    random.pick(&[2, 3, 255, any])
 }
 
 /// Short by one, or by any number.

@@ -1,4 +1,5 @@
 //! What was compared, and what differed.
+use crate::call::{Job, NONE_FOUND};
 use second::Refused;
 
 /// How many differences are printed; all are counted.
@@ -9,13 +10,16 @@ pub struct Tally {
     /// Calls that were made of both programs.
     pub calls: u64,
     pub differences: u64,
+    /// How often the library's Base found none.
+    pub none_found: u64,
     /// How often the library gave each refusal, by its number.
     refusals: [u64; 17],
 }
 
 impl Tally {
-    pub fn count_answer(&mut self, library: Result<usize, Refused>) {
+    pub fn count_answer(&mut self, job: Job, library: Result<usize, Refused>) {
         self.calls += 1;
+        self.none_found += u64::from(job == Job::Base && library == Ok(NONE_FOUND));
         if let Err((number, _)) = library {
             if let Some(count) = self.refusals.get_mut(usize::from(number)) {
                 *count += 1;

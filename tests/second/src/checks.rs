@@ -29,9 +29,11 @@ pub fn check_paragraph(classes: &[u8]) -> Result<(), Refused> {
     Ok(())
 }
 
-/// 5 as Explicit and Resolve have it: the request is none of 0, 1 and 2.
-pub fn check_request(request: u8) -> Result<(), Refused> {
-    if request > 2 {
+/// 5 as Explicit and Resolve have it: the request is none of 0, 1 and 2, or the
+/// default is neither 0 nor 1. The default is looked at with every request, also
+/// where it is of no use.
+pub fn check_request(request: u8, fallback: u8) -> Result<(), Refused> {
+    if request > 2 || fallback > 1 {
         return Err((5, 0));
     }
     Ok(())

@@ -5,10 +5,10 @@
 //! How it was kept independent: it was written from the chapter (source
 //! document 002) and from document 01 alone, before and without sight of the
 //! library's code and definitions. The marks were written from source documents
-//! 001 and 002 and from what ticket 14 asks, and class 19, CR, from what ticket
-//! 4 asks, both in the ticket's own words and in a longer telling, without sight
-//! of the library's code and definitions too. It shares no code, no table and no
-//! definition with that library.
+//! 001 and 002 and from what ticket 14 asks, class 19, CR, from what ticket 4
+//! asks, and the default from what ticket 3 asks, each in the ticket's own words
+//! and in a longer telling, without sight of the library's code and definitions
+//! too. It shares no code, no table and no definition with that library.
 //!
 //! How it is laid out: one function for each rule, named after the rule, with
 //! the rule restated above it. Everything is a plain loop over a `Vec`; speed
@@ -56,29 +56,41 @@ pub fn cut_part(classes: &[u8]) -> &[u8] {
     }
 }
 
-/// The level, 0 or 1, that the text of one paragraph gives it.
-pub fn base(classes: &[u8]) -> Result<u8, Refused> {
+/// The level, 0 or 1, that the text of one paragraph gives it, or none found.
+pub fn base(classes: &[u8]) -> Result<Option<u8>, Refused> {
     checks::check_paragraph(classes)?;
     Ok(base_by_text(classes))
 }
 
 /// Writes the levels as they stand after X9; answers the base level used.
-pub fn explicit_levels(classes: &[u8], request: u8, levels: &mut [u8]) -> Result<u8, Refused> {
+/// `fallback` is the default, the base level by text where the text gives none.
+pub fn explicit_levels(
+    classes: &[u8],
+    request: u8,
+    fallback: u8,
+    levels: &mut [u8],
+) -> Result<u8, Refused> {
     checks::check_paragraph(classes)?;
-    checks::check_request(request)?;
+    checks::check_request(request, fallback)?;
     checks::check_level_room(classes, levels)?;
-    let base = base_asked_for(classes, request);
+    let base = base_asked_for(classes, request, fallback);
     let kept = explicit::explicit(classes, base);
     write_levels(&spread(&kept, classes.len()), levels);
     Ok(base)
 }
 
 /// Writes the levels as they stand after I2; answers the base level used.
-pub fn resolve_levels(classes: &[u8], request: u8, levels: &mut [u8]) -> Result<u8, Refused> {
+/// `fallback` is the default, the base level by text where the text gives none.
+pub fn resolve_levels(
+    classes: &[u8],
+    request: u8,
+    fallback: u8,
+    levels: &mut [u8],
+) -> Result<u8, Refused> {
     checks::check_paragraph(classes)?;
-    checks::check_request(request)?;
+    checks::check_request(request, fallback)?;
     checks::check_level_room(classes, levels)?;
-    let base = base_asked_for(classes, request);
+    let base = base_asked_for(classes, request, fallback);
     let mut kept = explicit::explicit(classes, base);
     for run in runs::x10(&kept, base) {
         resolve_run(&mut kept, &run);
@@ -144,14 +156,15 @@ pub fn marks(classes: &[u8], flags: &[u8], order: &mut [u16]) -> Result<usize, R
 }
 
 /// P2 and P3 together.
-fn base_by_text(classes: &[u8]) -> u8 {
+fn base_by_text(classes: &[u8]) -> Option<u8> {
     paragraph::p3(paragraph::p2(classes))
 }
 
-/// Request 0 or 1 is itself the base level; request 2 asks for the text's.
-fn base_asked_for(classes: &[u8], request: u8) -> u8 {
+/// Request 0 or 1 is itself the base level; request 2 asks for the text's, or
+/// else for the default.
+fn base_asked_for(classes: &[u8], request: u8, fallback: u8) -> u8 {
     match request {
-        2 => base_by_text(classes),
+        2 => base_by_text(classes).unwrap_or(fallback),
         level => level,
     }
 }

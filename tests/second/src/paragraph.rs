@@ -55,11 +55,13 @@ pub fn p2(classes: &[u8]) -> Option<u8> {
         .find(|&class| class == L || class == R || class == AL)
 }
 
-/// P3: the paragraph's level is 1 if that character is R or AL; it is 0 if it
-/// is L or if there was none.
-pub fn p3(first_strong: Option<u8>) -> u8 {
+/// P3: the paragraph's level is 1 if that character is R or AL, and 0 if it is
+/// L. If there was none, the text gives no level; the chapter's 0 would be a
+/// guess.
+pub fn p3(first_strong: Option<u8>) -> Option<u8> {
     match first_strong {
-        Some(R) | Some(AL) => 1,
-        _ => 0,
+        Some(R) | Some(AL) => Some(1),
+        Some(_) => Some(0),
+        None => None,
     }
 }

@@ -1,9 +1,10 @@
 //! Document 01 as tests: the proof table and other checks, the edges, the
 //! plausible errors, and the cut; in parts of their own the refusals, the
-//! chapter's examples, and class 19 of ticket 4.
+//! chapter's examples, class 19 of ticket 4, and the default of ticket 3.
 
 mod chapter;
 mod common;
+mod fallback;
 mod newline;
 mod refusals;
 
@@ -177,13 +178,13 @@ fn edge_4096_and_4097_positions() {
     let each: Vec<u16> = (1..=4096).collect();
     let forward: Vec<u16> = (0..4096).collect();
     assert_eq!(lines(&text, &found, used, &each), forward);
-    assert_eq!(base(&text), Ok(1));
+    assert_eq!(base(&text), Ok(Some(1)));
     assert_eq!(cut(&text), Ok(4096));
 
     let over = classes(&"R ".repeat(4097));
     assert_eq!(base(&over), Err((3, 0)));
     assert_eq!(cut(&over), Err((3, 0)));
-    assert_eq!(resolve_levels(&over, 0, &mut vec![0; 4097]), Err((3, 0)));
+    assert_eq!(resolve_levels(&over, 0, 0, &mut vec![0; 4097]), Err((3, 0)));
 }
 
 #[test]
@@ -291,16 +292,16 @@ fn error_reversing_a_line_without_odd_level() {
 
 #[test]
 fn base_is_that_of_the_first_strong_class() {
-    assert_eq!(base(&classes("WS EN L R")), Ok(0));
-    assert_eq!(base(&classes("WS EN R L")), Ok(1));
-    assert_eq!(base(&classes("ON AL L")), Ok(1));
-    assert_eq!(base(&classes("AN EN NSM RLE RLO B")), Ok(0));
+    assert_eq!(base(&classes("WS EN L R")), Ok(Some(0)));
+    assert_eq!(base(&classes("WS EN R L")), Ok(Some(1)));
+    assert_eq!(base(&classes("ON AL L")), Ok(Some(1)));
+    assert_eq!(base(&classes("AN EN NSM RLE RLO B")), Ok(None));
 }
 
 #[test]
 fn base_looks_into_codes() {
-    assert_eq!(base(&classes("LRO R PDF L")), Ok(1));
-    assert_eq!(base(&classes("RLO L PDF R")), Ok(0));
+    assert_eq!(base(&classes("LRO R PDF L")), Ok(Some(1)));
+    assert_eq!(base(&classes("RLO L PDF R")), Ok(Some(0)));
 }
 
 #[test]

@@ -20,6 +20,9 @@ const MOST_SHOWN: usize = 100;
 /// What a level buffer holds at a removed position; `x` in the file.
 const REMOVED: u8 = 255;
 
+/// The file's auto direction is left to right where the text gives none.
+const DEFAULT: u8 = 0;
+
 /// The directions of the bit set: bit, request, name.
 const DIRECTIONS: [(u32, u8, &str); 3] = [(1, 2, "by text"), (2, 0, "LTR"), (4, 1, "RTL")];
 
@@ -199,7 +202,7 @@ fn run_row(progress: &mut Progress, row: &Row, line: &str, number: usize) -> Res
 fn run_case(classes: &[u8], request: u8) -> Result<(Vec<u8>, Vec<u16>), second::Refused> {
     let length = classes.len();
     let mut levels = vec![0; length];
-    let base = resolve_levels(classes, request, &mut levels)?;
+    let base = resolve_levels(classes, request, DEFAULT, &mut levels)?;
     let mut order = vec![0; length];
     let count = order_line(classes, &levels, base, 0, length, &mut order)?;
     order.truncate(count);

@@ -48,17 +48,27 @@ pub fn places(words: &str) -> Vec<u16> {
         .collect()
 }
 
-/// The base used and the levels after X9.
+/// The base used and the levels after X9, with default 0.
 pub fn explicit(classes: &[u8], request: u8) -> (u8, Vec<u8>) {
+    explicit_or(classes, request, 0)
+}
+
+/// The base used and the levels after I2, with default 0.
+pub fn resolve(classes: &[u8], request: u8) -> (u8, Vec<u8>) {
+    resolve_or(classes, request, 0)
+}
+
+/// The base used and the levels after X9, with the default given.
+pub fn explicit_or(classes: &[u8], request: u8, fallback: u8) -> (u8, Vec<u8>) {
     let mut buffer = vec![LEVEL_MARK; classes.len() + 3];
-    let base = explicit_levels(classes, request, &mut buffer).expect("accepted");
+    let base = explicit_levels(classes, request, fallback, &mut buffer).expect("accepted");
     (base, written_levels(buffer, classes.len()))
 }
 
-/// The base used and the levels after I2.
-pub fn resolve(classes: &[u8], request: u8) -> (u8, Vec<u8>) {
+/// The base used and the levels after I2, with the default given.
+pub fn resolve_or(classes: &[u8], request: u8, fallback: u8) -> (u8, Vec<u8>) {
     let mut buffer = vec![LEVEL_MARK; classes.len() + 3];
-    let base = resolve_levels(classes, request, &mut buffer).expect("accepted");
+    let base = resolve_levels(classes, request, fallback, &mut buffer).expect("accepted");
     (base, written_levels(buffer, classes.len()))
 }
 

@@ -111,7 +111,7 @@ fn p1_at_the_longest_paragraph() {
 
 #[test]
 fn no_2_begins_at_20() {
-    assert_eq!(base(&[CR]), Ok(0));
+    assert_eq!(base(&[CR]), Ok(None));
     for class in UNKNOWN..=255 {
         refused_everywhere(&[class], (2, 0));
     }
@@ -200,8 +200,8 @@ fn n_takes_cr_as_a_neutral() {
 
 #[test]
 fn p2_finds_no_strong_class_in_cr() {
-    assert_eq!(base(&classes("CR B")), Ok(0));
-    assert_eq!(base(&classes("EN R CR B")), Ok(1));
+    assert_eq!(base(&classes("CR B")), Ok(None));
+    assert_eq!(base(&classes("EN R CR B")), Ok(Some(1)));
 }
 
 #[test]

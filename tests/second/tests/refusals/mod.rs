@@ -6,10 +6,10 @@ use second::{base, explicit_levels, order_line, order_lines, resolve_levels, Ref
 
 /// The refusal of Explicit and of Resolve, which must be the same one, with a
 /// level buffer of `room` places that neither may alter.
-fn refused_levels(text: &[u8], request: u8, room: usize) -> Refused {
+pub fn refused_levels(text: &[u8], request: u8, fallback: u8, room: usize) -> Refused {
     let mut buffer = vec![LEVEL_MARK; room];
-    let first = explicit_levels(text, request, &mut buffer);
-    let second = resolve_levels(text, request, &mut buffer);
+    let first = explicit_levels(text, request, fallback, &mut buffer);
+    let second = resolve_levels(text, request, fallback, &mut buffer);
     assert_eq!(first, second, "the two level jobs");
     assert!(
         buffer.iter().all(|&level| level == LEVEL_MARK),
@@ -52,8 +52,8 @@ fn refused_lines(text: &[u8], lent: &[u8], base: u8, ends: &[u16], room: usize) 
 pub fn refused_everywhere(text: &[u8], wanted: Refused) {
     let n = text.len();
     assert_eq!(base(text), Err(wanted));
-    assert_eq!(refused_levels(text, 0, n + 1), wanted);
-    assert_eq!(refused_levels(text, 3, 0), wanted);
+    assert_eq!(refused_levels(text, 0, 0, n + 1), wanted);
+    assert_eq!(refused_levels(text, 3, 2, 0), wanted);
     let lent = vec![0; n];
     let end = n.max(1);
     assert_eq!(refused_line(text, &lent, 0, (0, end), end), wanted);
@@ -72,7 +72,7 @@ fn no_2_unknown_class() {
     refused_everywhere(&[20], (2, 0));
     refused_everywhere(&[0, 3, 255, 20], (2, 2));
     refused_everywhere(&[0, 3, 4, 20], (2, 3));
-    assert_eq!(base(&[18]), Ok(0));
+    assert_eq!(base(&[18]), Ok(None));
 }
 
 #[test]
@@ -95,7 +95,7 @@ fn no_4_b_before_the_last_position() {
     refused_everywhere(&classes("L B R"), (4, 1));
     refused_everywhere(&classes("B B"), (4, 0));
     refused_everywhere(&classes("L R B B B"), (4, 2));
-    assert_eq!(base(&classes("L R B")), Ok(0));
+    assert_eq!(base(&classes("L R B")), Ok(Some(0)));
 }
 
 #[test]
@@ -112,8 +112,8 @@ fn no_2_and_no_4_by_place() {
 #[test]
 fn no_5_request() {
     let text = classes("L R");
-    assert_eq!(refused_levels(&text, 3, 2), (5, 0));
-    assert_eq!(refused_levels(&text, 255, 2), (5, 0));
+    assert_eq!(refused_levels(&text, 3, 0, 2), (5, 0));
+    assert_eq!(refused_levels(&text, 255, 0, 2), (5, 0));
 }
 
 #[test]
@@ -128,7 +128,7 @@ fn no_5_base() {
 #[test]
 fn no_5_comes_before_6() {
     let text = classes("L R");
-    assert_eq!(refused_levels(&text, 3, 1), (5, 0));
+    assert_eq!(refused_levels(&text, 3, 0, 1), (5, 0));
     assert_eq!(refused_line(&text, &[0], 2, (0, 2), 2), (5, 0));
     assert_eq!(refused_lines(&text, &[0], 2, &[2], 2), (5, 0));
 }
@@ -136,8 +136,8 @@ fn no_5_comes_before_6() {
 #[test]
 fn no_6_too_few_levels() {
     let text = classes("L BN R");
-    assert_eq!(refused_levels(&text, 2, 2), (6, 0));
-    assert_eq!(refused_levels(&text, 0, 0), (6, 0));
+    assert_eq!(refused_levels(&text, 2, 0, 2), (6, 0));
+    assert_eq!(refused_levels(&text, 0, 0, 0), (6, 0));
     assert_eq!(refused_line(&text, &levels("0 -"), 0, (0, 1), 3), (6, 0));
     assert_eq!(refused_lines(&text, &levels("0 -"), 0, &[3], 3), (6, 0));
 }
