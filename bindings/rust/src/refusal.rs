@@ -69,7 +69,7 @@ impl fmt::Display for Refusal {
             Refusal::UnknownClass(at) => write!(f, "the class at position {at} is unknown"),
             Refusal::TooLong => write!(f, "there are more than 4,096 positions or characters"),
             Refusal::EarlySeparator(at) => write!(f, "B or CR at position {at} does not end the paragraph"),
-            Refusal::BadBase => write!(f, "there is no such base level"),
+            Refusal::BadBase => write!(f, "there is no such request, default or base level"),
             Refusal::ShortLevels => write!(f, "the level buffer is shorter than the paragraph"),
             Refusal::BadLevel(at) => write!(f, "the level at position {at} is none that resolving gives"),
             Refusal::BadLine => write!(f, "the line is empty or goes beyond the paragraph"),

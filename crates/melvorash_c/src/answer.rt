@@ -47,8 +47,8 @@ fn of_refusal(refusal: Refusal) -> Answer
     }
 }
 
-// Each job's answer: the paragraph's length, the base level or none found, the base level used, the count of positions placed, the count
-// of characters drawn.
+// Each job's answer: the paragraph's length, the base level or none found, the base level used, the count of positions
+// placed, the count of characters drawn.
 pub(crate) fn of_cut(answer: CutAnswer) -> Answer
     ensures { λ r. ⌜ r ≡ numbersOf (cutPage answer) ⌝ }
 {

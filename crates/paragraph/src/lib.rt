@@ -1,5 +1,5 @@
-// The pair that P1 does not cut apart; and the base level of a paragraph: rules P2 and P3, and the request that may stand
-// in their place.
+// The pair that P1 does not cut apart; and the base level of a paragraph: rules P2 and P3, the request that may stand in
+// their place, and the default for a text that decides nothing.
 ghost use mathlib.Core.Path.{_≡_};
 ghost use Prim.Native.Nat.{_+_};
 ghost use lib.ListN.{getD, drop};

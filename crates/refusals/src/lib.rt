@@ -9,10 +9,10 @@ pub const UNKNOWN_CLASS: u8 = 2;
 
 pub const TOO_LONG: u8 = 3;
 
-// B before the last position.
+// B or CR before the last position, and no CR that a last B follows.
 pub const EARLY_SEPARATOR: u8 = 4;
 
-// A request above 2, or in Order a base above 1.
+// A request above 2, a default above 1, or in Order a base above 1.
 pub const BAD_BASE: u8 = 5;
 
 pub const SHORT_LEVELS: u8 = 6;

@@ -19,12 +19,19 @@ use Rattle.rules.proofs.JobLaws.{accepted-sound}
 abbrev pub byText : ℕ
 byText = 2
 
-pub base-used : (cs levels : List ℕ) (fallback used : ℕ) (found : Option ℕ) → baseAnswer cs ≡ accepted found → levelsAnswer cs byText fallback levels ≡ accepted used → used ≡ orElse found fallback
-unfolding baseAnswer levelsAnswer baseOf
-base-used cs levels fallback used found b l =
-    let by-text : baseByText cs ≡ found = accepted-sound (checksOfBase cs) (baseByText cs) found b .1 in
-    let taken : orElse (baseByText cs) fallback ≡ used = accepted-sound (checksOfLevels cs byText fallback (length levels)) _ used l .1 in
-    sym taken ∙ ap (λ (o : Option ℕ). orElse o fallback) by-text
+module _ (cs levels : List ℕ) (fallback used : ℕ) (l : levelsAnswer cs byText fallback levels ≡ accepted used) where
+  used-is : (found : Option ℕ) → baseAnswer cs ≡ accepted found → orElse found fallback ≡ used
+  unfolding baseAnswer levelsAnswer baseOf
+  used-is found b =
+      let by-text : baseByText cs ≡ found = accepted-sound (checksOfBase cs) (baseByText cs) found b .1 in
+      let taken : orElse (baseByText cs) fallback ≡ used = accepted-sound (checksOfLevels cs byText fallback (length levels)) _ used l .1 in
+      ap (λ (o : Option ℕ). orElse o fallback) (sym by-text) ∙ taken
+
+  pub base-used : (level : ℕ) → baseAnswer cs ≡ accepted (some level) → level ≡ used
+  base-used level b = used-is (some level) b
+
+  pub default-used : baseAnswer cs ≡ accepted none → fallback ≡ used
+  default-used b = used-is none b
 
 -- ---- a base is 0 or 1
 at-most-one : (b : Bool) → (if b then 1 else 0) ≤ 1

@@ -80,7 +80,7 @@ X5 s = opening (leastGreaterEven (s .level)) L
 unfoldable pub X7 : State → Verdict
 X7 s = closing (s .unmatched)
 
--- every other class is plain: it leaves the state as it is, B and CR too, which nothing but a B follows
+-- every other class is plain: it leaves the state as it is, B and CR too: behind them stands nothing but the B of a CR
 unfoldable pub verdict : State → ℕ → Verdict
 verdict s c =
     if eqb c RLE then X2 s else

@@ -122,7 +122,7 @@ requestNamed word = getD requestsAsked (firstWordPlace word) 3
 unfoldable pub fallbackNamed : List ℕ → ℕ
 fallbackNamed word = getD fallbacksAsked (firstWordPlace word) 0
 
--- a line: its first word is the request, each further word a class. An empty line has no classes
+-- a line: its first word asks a request and a default, each further word is a class. An empty line has no classes
 unfoldable pub requestOf : List ℕ → ℕ
 requestOf line = requestNamed (firstPart (partsAt space line))
 

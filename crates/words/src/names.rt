@@ -1,4 +1,4 @@
-// What a word names: a class, or the request at the beginning of a line.
+// What a word names: a class, or at the beginning of a line a request and its default.
 use crate::SPACE;
 ghost use Prim.Native.Nat.{_<_};
 ghost use mathlib.Core.Path.{_≡_};
