@@ -19,6 +19,7 @@ use Rattle.rules.specs.Classes.{B, CR, highestClass, isUnknown, isParagraphEnd}
 use Rattle.rules.specs.Paragraph.{isPair}
 use Rattle.rules.specs.Refusals.{Check, sound, refuse, _andThen_, mayEnd, faultAt, firstFault}
 use Rattle.rules.proofs.PairLaws.{pair-past}
+use Rattle.rules.proofs.SoundLaws.{then-sound}
 use Rattle.checks.specs.Faults.{isFault, closingAt}
 
 -- ---- what may end a paragraph, by how much stands behind it
@@ -114,10 +115,6 @@ none-behind at c (d ∷ []) ends = by-test (eqb d B)
     (λ b. absurd (not-both ends (rw b (ap (λ (p : Bool). p && true) (and-false (eqb c CR))))))
 none-behind at c (d ∷ e ∷ cs) ends =
     absurd (not-both ends (sym (may-not c (d ∷ e ∷ cs) (λ none. omega arith) (λ one. omega arith))))
-
-then-sound : (check : Check) → (check andThen sound) ≡ check
-then-sound sound = refl
-then-sound (refuse number place) = refl
 
 pub closing-is-first : (cs : List ℕ) (n : ℕ) (found : Check) → n < length cs → mayEnd (getD cs n 0) (drop (n + 1) cs) ≡ true → anyOf isFault (take n cs) ≡ false → found ≡ faultAt n (getD cs n 0) (drop (n + 1) cs) → found ≡ firstFault 0 cs
 closing-is-first cs n found within ends none e =

@@ -16,7 +16,7 @@ use Rattle.rules.specs.Line.{lineLevels, lineOrder}
 use Rattle.rules.specs.Refusals.{Check, sound, refuse, _andThen_, checkSome, checkLength, checkClasses, checkRequest, checkLevelRoom, checkLine, checkOrderRoom, checksOfLevels, checksOfOrder, checksOfLine, longestParagraph}
 use Rattle.rules.specs.Jobs.{Answer, accepted, refused, answered, levelsAnswer, resolveBuffer, lineAnswer, lineBuffer}
 use Rattle.laws.proofs.Lists.{le-or-lt}
-use Rattle.rules.proofs.SoundLaws.{classes-length, classes-some, levels-sound}
+use Rattle.rules.proofs.SoundLaws.{then-sound, classes-length, classes-some, levels-sound}
 use Rattle.resolve.proofs.WholeLaws.{length-resolved}
 use Rattle.melvorash.specs.Answers.{Leaves, OrdersLine}
 use Rattle.rules.proofs.JobLaws.{accepted-value, never-both, accepted-sound}
@@ -44,10 +44,6 @@ text-of-front request fallback cs = go (le-or-lt (length cs) mostClasses)
         ∙ sym (told-too-long request fallback cs (omega arith))
 
 -- ---- with room for the longest paragraph there is no refusal for want of room
-then-sound : (check : Check) → (check andThen sound) ≡ check
-then-sound sound = refl
-then-sound (refuse number place) = refl
-
 enough-room : (check : Check) (cs : List ℕ) (request fallback room : ℕ) → checkClasses cs ≡ check → longestParagraph ≤ room → checksOfLevels cs request fallback room ≡ (check andThen checkRequest request fallback)
 unfolding checksOfLevels checkLevelRoom
 enough-room sound cs request fallback room e h =

@@ -6,18 +6,17 @@ use borrow.Author.Tests.{eqb-true}
 use lib.Dec.{eqb}
 use Rattle.laws.specs.Choice.{if_then_else_}
 use Rattle.laws.proofs.Passes.{by-test}
-use Rattle.rules.specs.Classes.{B, S, CR, isOpening, isRemoved, isParagraphEnd, isSeparator, isBlank}
+use Rattle.rules.specs.Classes.{S, isOpening, isRemoved, isSeparator, isBlank}
+use Rattle.rules.proofs.PairLaws.{of-ends}
 use Rattle.reset.specs.Steps.{backTo, Steps}
 
 -- a separator is neither removed nor a blank
 set-by-separator : (c : ℕ) → isSeparator c ≡ true → (isRemoved c || isBlank c) ≡ false
-unfolding isSeparator isParagraphEnd isRemoved isOpening isBlank
+unfolding isSeparator isRemoved isOpening isBlank
 set-by-separator c e =
     by-test (eqb c S)
     (λ s. let is : c ≡ S = eqb-true c S s in rw is)
-    (λ s. by-test (eqb c B)
-    (λ b. let is : c ≡ B = eqb-true c B b in rw is)
-    (λ b. let last : eqb c CR ≡ true = rw (s, b) at e in let is : c ≡ CR = eqb-true c CR last in rw is))
+    (λ s. of-ends (λ c. (isRemoved c || isBlank c) ≡ false) refl refl c (rw s at e))
 
 blank-back : (s : Bool) (base l : ℕ) → base ≡ (if s || (true && true) then base else l)
 blank-back true base l = refl

@@ -14,10 +14,8 @@ use Rattle.rules.specs.Classes.{L, R, AL, LRE, EN, WS, B, isStrong}
 use Rattle.rules.specs.Paragraph.{P2, P3, baseByText, orElse, baseOf}
 use Rattle.rules.specs.Refusals.{checksOfBase, checksOfLevels}
 use Rattle.rules.specs.Jobs.{accepted, baseAnswer, levelsAnswer}
+use Rattle.rules.specs.Table.{byText}
 use Rattle.rules.proofs.JobLaws.{accepted-sound}
-
-abbrev pub byText : ℕ
-byText = 2
 
 module _ (cs levels : List ℕ) (fallback used : ℕ) (l : levelsAnswer cs byText fallback levels ≡ accepted used) where
   used-is : (found : Option ℕ) → baseAnswer cs ≡ accepted found → orElse found fallback ≡ used

@@ -4,7 +4,7 @@ use Prim.Native.Nat.{ℕ, zero, suc, _+_, _≤_, max, zero-le, suc-le-suc}
 use native.Mathlib.Nat.{suc-add}
 use native.Mathlib.Numerals.{one-add}
 use native.Mathlib.Omega.{arith}
-use mathlib.Core.Path.{_≡_, refl, sym, ap, _∙_, subst}
+use mathlib.Core.Path.{_≡_, refl, sym, ap, _∙_}
 use mathlib.Core.Bool.{true, false, not}
 use mathlib.Core.List.{List, [], _∷_, _++_, map, tail, append-nil}
 use borrow.Author.Tests.{eqb-true, eq-eqb, not-false}
@@ -24,15 +24,9 @@ use Rattle.rules.specs.Weak.{W1, W2, W3, W4, W5, W6, W7, changeW1, chang
 use Rattle.rules.specs.Neutral.{N1, N2, direction, changeN1, levelDirection, changeN2}
 use Rattle.rules.specs.Implicit.{I1, I2, implicitLevel}
 use Rattle.rules.specs.Resolve.{resolveRun, resolveRuns, resolveKept, resolvedLevels}
+use Rattle.rules.proofs.PairLaws.{of-ends}
 
--- ---- paragraph ends: what holds of B and of CR holds of each of them
-of-ends : (P : ℕ → Type 0) → P B → P CR → (c : ℕ) → isParagraphEnd c ≡ true → P c
-unfolding isParagraphEnd
-of-ends P b cr c end =
-    by-test (eqb c B)
-    (λ e. let is : c ≡ B = eqb-true c B e in subst P (sym is) b)
-    (λ e. let is : c ≡ CR = eqb-true c CR (rw e at end) in subst P (sym is) cr)
-
+-- ---- what is asked of a paragraph end here
 record End (c : ℕ) : Type 0 where
   ends : isParagraphEnd c ≡ true
   neutral : isNeutral c ≡ true

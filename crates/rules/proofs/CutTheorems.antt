@@ -6,7 +6,7 @@ use native.Mathlib.Omega.{arith}
 use mathlib.Core.Path.{_≡_, refl, sym, ap, ap₂, _∙_}
 use mathlib.Core.Bool.{Bool, true, false}
 use mathlib.Core.List.{List, [], _∷_, _++_}
-use borrow.Author.Tests.{ne-eqb, eqb-true, eqb-false, lt-ltb, le-ltb}
+use borrow.Author.Tests.{ne-eqb, eqb-false, lt-ltb, le-ltb}
 use lib.Dec.{eqb, ltb}
 use lib.ListN.{length}
 use Rattle.laws.specs.Any.{anyOf}
@@ -18,7 +18,7 @@ use Rattle.rules.specs.Paragraph.{isPair, P1}
 use Rattle.rules.specs.Refusals.{longestParagraph, Check, sound, refuse, refuseWhere, isEmpty, checkSome, checkLength, mayEnd, faultAt, firstFault, checkClasses, walk, checksOfCut}
 use Rattle.rules.specs.Jobs.{accepted, refused, answered, whereSound, cutAnswer, cutPart}
 use Rattle.rules.proofs.JobLaws.{never-both, accepted-sound}
-use Rattle.rules.proofs.PairLaws.{not-CR, no-pair, pair-first}
+use Rattle.rules.proofs.PairLaws.{of-ends, not-CR, no-pair, pair-first}
 use Rattle.rules.proofs.SoundLaws.{never-sound, test-fails}
 
 -- ---- what stands behind a separator
@@ -77,11 +77,8 @@ abbrev pub withItsB : ℕ → List ℕ → List ℕ
 withItsB end ds = if isPair end ds then end ∷ B ∷ [] else end ∷ []
 
 known-end : (end : ℕ) → isParagraphEnd end ≡ true → isUnknown end ≡ false
-unfolding isParagraphEnd isUnknown
-known-end end ends =
-    by-test (eqb end B)
-    (λ b. let is : end ≡ B = eqb-true end B b in rw is)
-    (λ b. let last : eqb end CR ≡ true = rw b at ends in let is : end ≡ CR = eqb-true end CR last in rw is)
+unfolding isUnknown
+known-end end ends = of-ends (λ c. isUnknown c ≡ false) refl refl end ends
 
 ltb-suc : (m n : ℕ) → ltb m n ≡ ltb (suc m) (suc n)
 ltb-suc m n = rw compare·suc-suc

@@ -1,6 +1,6 @@
--- What holds of a CR and the B that follows it, and how the two are read off a list. Assumes nothing.
+-- What holds of a paragraph end, of a CR and the B that follows it, and how the two are read off a list. Assumes nothing.
 use Prim.Native.Nat.{ℕ, zero, suc, _≤_}
-use mathlib.Core.Path.{_≡_, refl, ap}
+use mathlib.Core.Path.{_≡_, refl, sym, ap, subst}
 use mathlib.Core.Bool.{true, false}
 use mathlib.Core.List.{List, [], _∷_}
 use borrow.Author.Tests.{ne-eqb, eqb-true}
@@ -11,6 +11,14 @@ use Rattle.rules.specs.Paragraph.{isPair}
 use Rattle.laws.proofs.Any.{neither}
 use Rattle.laws.proofs.Passes.{by-test}
 use Rattle.laws.proofs.Tests.{not-both, and-false}
+
+-- what holds of B and of CR holds of every paragraph end
+pub of-ends : (P : ℕ → Type 0) → P B → P CR → (c : ℕ) → isParagraphEnd c ≡ true → P c
+unfolding isParagraphEnd
+of-ends P b cr c end =
+    by-test (eqb c B)
+    (λ e. let is : c ≡ B = eqb-true c B e in subst P (sym is) b)
+    (λ e. let is : c ≡ CR = eqb-true c CR (rw e at end) in subst P (sym is) cr)
 
 pub not-CR : (c : ℕ) (cs : List ℕ) → (c ≡ CR → ⊥) → isPair c cs ≡ false
 unfolding isPair

@@ -13,6 +13,10 @@ use Rattle.laws.proofs.Any.{neither}
 pub never-sound : {number place : ℕ} → refuse number place ≡ sound → ⊥
 never-sound e = let z : _≡_ {A = ℕ} 0 1 = cc in omega arith
 
+pub then-sound : (check : Check) → (check andThen sound) ≡ check
+then-sound sound = refl
+then-sound (refuse number place) = refl
+
 both-sound : (a b : Check) → (a andThen b) ≡ sound → (a ≡ sound) × (b ≡ sound)
 both-sound sound b e = (refl, e)
 both-sound (refuse number place) b e = absurd (never-sound e)

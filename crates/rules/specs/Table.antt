@@ -27,7 +27,7 @@ pub record Row : Type 0 where
   pub count : Answer ℕ
 
 -- a request by text, the default that goes with it, and what stands for the page's dash
-abbrev byText : ℕ
+abbrev pub byText : ℕ
 byText = 2
 
 abbrev fallback : ℕ
