@@ -1,5 +1,5 @@
 -- What holds of every element of a list. Assumes nothing.
-use Prim.Native.Nat.{ℕ, zero, suc, _<_}
+use Prim.Native.Nat.{ℕ, zero, suc, _≤_, _<_}
 use native.Mathlib.Nat.{le-of-suc-le-suc, not-suc-le-zero}
 use mathlib.Core.Bool.{Bool}
 use mathlib.Core.Path.{sym, subst}
@@ -12,6 +12,10 @@ use Rattle.laws.proofs.Settling.{goes-behind, stays-before, insert-nil,
 abbrev pub Every : {A : Type 0} → (A → Type 0) → List A → Type 0
 Every P [] = Unit {0}
 Every P (x ∷ xs) = P x × Every P xs
+
+-- no number is above a given one
+abbrev pub AtMost : ℕ → List ℕ → Type 0
+AtMost n xs = Every (λ (x : ℕ). x ≤ n) xs
 
 module _ {A : Type 0} (P : A → Type 0) where
   pub every-append : (xs ys : List A) → Every P xs → Every P ys → Every P (xs ++ ys)

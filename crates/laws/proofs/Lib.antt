@@ -7,6 +7,7 @@ pub mod Passes
 pub mod Filling
 pub mod Settling
 pub mod Every
+pub mod SumLaws
 pub mod Placing
 pub mod Sinking
 pub mod Upward

@@ -44,6 +44,14 @@ le-or-lt (suc a) (suc b) = up (le-or-lt a b)
     up (inl h) = inl (suc-le-suc h)
     up (inr h) = inr (suc-le-suc h)
 
+-- a case split on the order of two numbers
+pub by-order : {A : Type 0} (a b : ℕ) → (a ≤ b → A) → (b < a → A) → A
+by-order {A} a b upTo above = go (le-or-lt a b)
+  where
+    go : (a ≤ b) ⊎ (b < a) → A
+    go (inl h) = upTo h
+    go (inr h) = above h
+
 -- a part that was lent and is back: up to its end, what stood before it and then what is in its place now
 pub take-put-end : (xs ys : List ℕ) (i e : ℕ) → i ≤ e → e ≤ length xs → length ys ≡ e - i → take e (putMid i (e - i) xs ys) ≡ take i xs ++ ys
 take-put-end xs ys i e h g l =

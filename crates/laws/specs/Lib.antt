@@ -5,3 +5,4 @@ pub mod Stretches
 pub mod Any
 pub mod Sorting
 pub mod Tables
+pub mod Sums

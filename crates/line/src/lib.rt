@@ -5,9 +5,16 @@ ghost use Prim.Native.Nat.{_+_, _-_, _≤_, _<_};
 ghost use lib.ListN.{length, getD};
 ghost use Rattle.rules.specs.Line.{L2, positionsOf, lineOrder, allOrders};
 ghost use Rattle.rules.specs.Refusals.{longestParagraph, endsRiseTo};
+ghost use Rattle.rules.specs.Reversals.{L2reverses, lineReversed, allReversed};
 ghost use Rattle.line.specs.Items.{lineItems};
 ghost use Rattle.line.specs.Ordered.{Ordered};
 use places::Position;
+
+// What ordering did: how many positions it placed, and how many the passes reversed, added over all passes.
+pub struct Placed {
+    pub count: usize,
+    pub reversed: usize,
+}
 
 // The order of a line, given its own classes and levels, with a work buffer for the line's levels.
 fn order_with(
@@ -17,12 +24,13 @@ fn order_with(
     from: usize,
     work: &mut [u8],
     order: &mut [u16],
-) -> usize
+) -> Placed
     requires { ⌜ length (now levels) ≡ length (now classes) ⌝ }
     requires { ⌜ length (now classes) ≤ length (now work) ⌝ }
     requires { ⌜ length (now classes) ≤ length (now order) ⌝ }
+    requires { ⌜ length (now classes) ≤ longestParagraph ⌝ }
     requires { ⌜ from + length (now classes) ≤ 65536 ⌝ }
-    ensures { λ r. ⌜ Ordered (positionsOf (L2 (lineItems base from (now (classes .entry)) (now (levels .entry))))) (now (order .entry)) r (now (order .exit)) ⌝ }
+    ensures { λ r. ⌜ Ordered (positionsOf (L2 (lineItems base from (now (classes .entry)) (now (levels .entry))))) (L2reverses (lineItems base from (now (classes .entry)) (now (levels .entry)))) (now (order .entry)) r (now (order .exit)) ⌝ }
 {
     reset::reset(classes, levels, base, work);
     let count = kept::gather(classes, Position(from), work, order);
@@ -31,10 +39,11 @@ fn order_with(
     let lowest = level_range::lowest_odd_level(packed);
     // Without an odd level memory order stands.
     if top < lowest {
-        return count;
+        return Placed { count, reversed: 0 };
     }
     reversal::reversal_pass(top, lowest, packed, order);
-    count
+    let reversed = slots::reversed(packed, lowest);
+    Placed { count, reversed }
 }
 
 // The order of the line from one position up to, not including, another. The work buffer is chosen by
@@ -46,13 +55,13 @@ pub fn order_line(
     from: usize,
     to: usize,
     order: &mut [u16],
-) -> usize
+) -> Placed
     requires { ⌜ from ≤ to ⌝ }
     requires { ⌜ to ≤ length (now classes) ⌝ }
     requires { ⌜ length (now classes) ≤ length (now levels) ⌝ }
     requires { ⌜ length (now classes) ≤ longestParagraph ⌝ }
     requires { ⌜ to - from ≤ length (now order) ⌝ }
-    ensures { λ r. ⌜ Ordered (lineOrder base (now (classes .entry)) (now (levels .entry)) from to) (now (order .entry)) r (now (order .exit)) ⌝ }
+    ensures { λ r. ⌜ Ordered (lineOrder base (now (classes .entry)) (now (levels .entry)) from to) (lineReversed base (now (classes .entry)) (now (levels .entry)) from to) (now (order .entry)) r (now (order .exit)) ⌝ }
 {
     let line = &classes[from..to];
     let own = &levels[from..to];
@@ -79,21 +88,24 @@ pub fn order_lines(
     base: u8,
     ends: &[u16],
     order: &mut [u16],
-) -> usize
+) -> Placed
     requires { ⌜ length (now classes) ≤ length (now levels) ⌝ }
     requires { ⌜ length (now classes) ≤ longestParagraph ⌝ }
     requires { ⌜ endsRiseTo 0 (now ends) (length (now classes)) ≡ true ⌝ }
     requires { ⌜ length (now classes) ≤ length (now order) ⌝ }
-    ensures { λ r. ⌜ Ordered (allOrders base (now (classes .entry)) (now (levels .entry)) 0 (now (ends .entry))) (now (order .entry)) r (now (order .exit)) ⌝ }
+    ensures { λ r. ⌜ Ordered (allOrders base (now (classes .entry)) (now (levels .entry)) 0 (now (ends .entry))) (allReversed base (now (classes .entry)) (now (levels .entry)) 0 (now (ends .entry))) (now (order .entry)) r (now (order .exit)) ⌝ }
 {
     let mut from = 0;
     let mut count = 0;
+    let mut reversed = 0;
     let mut i = 0;
     while i < ends.len() {
         let to = end_at(ends, i);
-        count += order_line(classes, levels, base, from, to, &mut order[count..]);
+        let line = order_line(classes, levels, base, from, to, &mut order[count..]);
+        count += line.count;
+        reversed += line.reversed;
         from = to;
         i += 1;
     }
-    count
+    Placed { count, reversed }
 }

@@ -1,6 +1,6 @@
 -- The smallest level of some items: none of them is below it, and one of them is of that level.
 -- Assumes nothing.
-use Prim.Native.Nat.{ℕ, _≤_, _<_, _%_, min, max}
+use Prim.Native.Nat.{ℕ, _≤_, _<_, _%_, min}
 use native.Mathlib.Omega.{arith}
 use mathlib.Core.Bool.{true, false}
 use mathlib.Core.Path.{_≡_, refl, ap}
@@ -9,10 +9,12 @@ use lib.Dec.{ltb}
 use borrow.Author.Tests.{ltb-false, le-ltb, eq-eqb, eqb-true, eqb-false}
 use Rattle.laws.specs.Choice.{isOdd}
 use Rattle.rules.specs.Line.{Item, highest, lowestOdd}
+use Rattle.rules.proofs.LowestLaws.{highest-cons, lowest-nil, lowest-odd, lowest-even}
 use Rattle.laws.proofs.Passes.{by-test}
 use Rattle.pairwise.specs.Demand3.{least}
-use Rattle.pairwise.proofs.PassLaws.{by-order}
-use Rattle.pairwise.proofs.Count.{one, count, isBelow, isOf}
+use Rattle.laws.proofs.Lists.{by-order}
+use Rattle.laws.proofs.SumLaws.{one}
+use Rattle.pairwise.proofs.Count.{count, isBelow, isOf}
 
 abbrev pub levels : List Item → List ℕ
 levels xs = map (λ (x : Item). x .level) xs
@@ -52,22 +54,6 @@ least-found m x (y ∷ ys) is =
 
 -- ---- The highest level, and the lowest odd one
 
-highest-cons : (x : Item) (xs : List Item) → highest (x ∷ xs) ≡ max (x .level) (highest xs)
-unfolding highest
-highest-cons x xs = refl
-
-lowest-nil : (none : ℕ) → lowestOdd none [] ≡ none
-unfolding lowestOdd
-lowest-nil none = refl
-
-lowest-odd : (none : ℕ) (x : Item) (xs : List Item) → isOdd (x .level) ≡ true → lowestOdd none (x ∷ xs) ≡ min (x .level) (lowestOdd none xs)
-unfolding lowestOdd
-lowest-odd none x xs e = rw e
-
-lowest-even : (none : ℕ) (x : Item) (xs : List Item) → isOdd (x .level) ≡ false → lowestOdd none (x ∷ xs) ≡ lowestOdd none xs
-unfolding lowestOdd
-lowest-even none x xs e = rw e
-
 pub at-most-highest : (m : ℕ) (xs : List Item) → 1 ≤ count (isOf m) xs → m ≤ highest xs
 at-most-highest m [] some = absurd (omega arith)
 at-most-highest m (x ∷ xs) some =
@@ -76,22 +62,6 @@ at-most-highest m (x ∷ xs) some =
     (λ not. omega (arith, highest-cons x xs, at-most-highest m xs (omega (arith, ap one not))))
 
 module _ (none : ℕ) where
-  pub lowest-within : (xs : List Item) → lowestOdd none xs ≤ none
-  lowest-within [] = omega (arith, lowest-nil none)
-  lowest-within (x ∷ xs) =
-      let rest : lowestOdd none xs ≤ none = lowest-within xs in
-      by-test (isOdd (x .level))
-      (λ odd. omega (arith, lowest-odd none x xs odd))
-      (λ even. omega (arith, lowest-even none x xs even))
-
-  pub lowest-positive : (xs : List Item) → 1 ≤ none → 1 ≤ lowestOdd none xs
-  lowest-positive [] some = omega (arith, lowest-nil none)
-  lowest-positive (x ∷ xs) some =
-      let rest : 1 ≤ lowestOdd none xs = lowest-positive xs some in
-      by-test (isOdd (x .level))
-      (λ odd. omega (arith, lowest-odd none x xs odd, eqb-true (x .level % 2) 1 odd))
-      (λ even. omega (arith, lowest-even none x xs even))
-
   pub lowest-is-odd : (xs : List Item) → lowestOdd none xs < none → lowestOdd none xs % 2 ≡ 1
   lowest-is-odd [] less = absurd (omega (arith, lowest-nil none))
   lowest-is-odd (x ∷ xs) less =

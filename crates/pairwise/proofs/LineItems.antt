@@ -14,7 +14,8 @@ use Rattle.rules.specs.Explicit.{kept}
 use Rattle.laws.specs.Parts.{part}
 use Rattle.rules.specs.Line.{Item, items}
 use Rattle.laws.proofs.Passes.{by-test}
-use Rattle.pairwise.proofs.Count.{one, count, standsAt}
+use Rattle.laws.proofs.SumLaws.{one}
+use Rattle.pairwise.proofs.Count.{count, standsAt}
 use Rattle.pairwise.proofs.Least.{levels}
 use Rattle.pairwise.proofs.Pairs.{from-to}
 use Rattle.laws.proofs.Lists.{length-part}

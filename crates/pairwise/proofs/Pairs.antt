@@ -14,11 +14,13 @@ use Rattle.laws.specs.Choice.{isOdd}
 use Rattle.rules.specs.Line.{Item, passes, highest, lowestOdd, L2}
 use Rattle.laws.proofs.Passes.{by-test}
 use Rattle.pairwise.specs.Demand3.{least}
-use Rattle.pairwise.proofs.PassLaws.{by-order}
-use Rattle.pairwise.proofs.Count.{one, count, standsAt, isBelow, isOf, count-append, count-passes}
+use Rattle.laws.proofs.Lists.{by-order}
+use Rattle.laws.proofs.SumLaws.{one}
+use Rattle.pairwise.proofs.Count.{count, standsAt, isBelow, isOf, count-append, count-passes}
 use Rattle.pairwise.proofs.Stretches.{passes-part, passes-turn, Parted, first-below, Begins, begins, Ends, ends}
 use Rattle.pairwise.proofs.Sides.{Left, Turned, turned-between, turned-reversed}
-use Rattle.pairwise.proofs.Least.{levels, none-below, least-reached, least-found, at-most-highest, lowest-within, lowest-positive, lowest-is-odd, lowest-reached}
+use Rattle.rules.proofs.LowestLaws.{lowest-within, lowest-positive}
+use Rattle.pairwise.proofs.Least.{levels, none-below, least-reached, least-found, at-most-highest, lowest-is-odd, lowest-reached}
 
 -- the items from x to y, both counted
 abbrev pub from-to : Item → List Item → Item → List Item

@@ -9,7 +9,8 @@ use lib.Seq.{getD-append-add}
 use borrow.Author.Tests.{eq-eqb, eqb-true}
 use Rattle.rules.specs.Line.{Item}
 use Rattle.laws.proofs.Passes.{by-test}
-use Rattle.pairwise.proofs.Count.{one, count, standsAt}
+use Rattle.laws.proofs.SumLaws.{one}
+use Rattle.pairwise.proofs.Count.{count, standsAt}
 use Rattle.pairwise.proofs.Sides.{Left}
 
 -- the positions of items, in turn

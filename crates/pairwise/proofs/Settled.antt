@@ -10,7 +10,7 @@ use lib.ListN.{length, getD}
 use Rattle.laws.specs.Choice.{isOdd}
 use Rattle.rules.specs.Line.{lineLevels, lineOrder}
 use Rattle.pairwise.specs.Demand3.{OnLine, leastBetween, Displayed}
-use Rattle.pairwise.proofs.PassLaws.{by-order}
+use Rattle.laws.proofs.Lists.{by-order}
 use Rattle.pairwise.proofs.Places.{At}
 use Rattle.pairwise.proofs.Theorem.{demand3}
 

@@ -11,8 +11,10 @@ use lib.Dec.{leb, ltb}
 use borrow.Author.Tests.{le-leb, lt-leb, ltb-true, ltb-false}
 use Rattle.rules.specs.Line.{Item, pass, passes}
 use Rattle.laws.proofs.Passes.{by-test}
-use Rattle.pairwise.proofs.PassLaws.{by-order, pass-nil, pass-high, pass-low, passes-none, passes-end, passes-first}
-use Rattle.pairwise.proofs.Count.{one, count, isBelow, count-passes}
+use Rattle.laws.proofs.Lists.{by-order}
+use Rattle.rules.proofs.PassLaws.{pass-nil, pass-high, pass-low, passes-none, passes-end, passes-first}
+use Rattle.laws.proofs.SumLaws.{one}
+use Rattle.pairwise.proofs.Count.{count, isBelow, count-passes}
 
 -- ---- An item below the level of a pass parts the list
 

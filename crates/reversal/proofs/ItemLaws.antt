@@ -9,10 +9,13 @@ use mathlib.Core.Bool.{Bool, true, false}
 use mathlib.Core.List.{List, [], _∷_, _++_, map, append-assoc}
 use lib.Dec.{leb}
 use lib.ListN.{length}
-use borrow.Author.Tests.{leb-true, le-leb, lt-leb, eqb-false}
+use borrow.Author.Tests.{leb-true, le-leb, eqb-false}
 use Rattle.laws.specs.Choice.{if_then_else_, isOdd}
 use Rattle.rules.specs.Line.{Item, positionsOf, levelsOf, L2, pass, passes, highest, lowestOdd}
+use Rattle.rules.specs.Reversals.{L2reverses, slots}
 use Rattle.laws.proofs.Lists.{le-or-lt}
+use Rattle.rules.proofs.PassLaws.{passes-none}
+use Rattle.rules.proofs.ReversalLaws.{reverses-sum, slots-none}
 use Rattle.level_range.specs.Levels.{atLevels}
 use Rattle.reversal.specs.Passes.{passBy, passesBy}
 use Rattle.level_range.proofs.ScanLaws.{low-min}
@@ -130,11 +133,6 @@ unfolding highest lowestOdd
 odd-within none [] = inr refl
 odd-within none (x ∷ xs) = within-if (isOdd (x .level)) (x .level) (lowestOdd none xs) (highest xs) refl (odd-within none xs)
 
-passes-none : (level lowest : ℕ) (xs : List Item) → level < lowest → passes level lowest xs ≡ xs
-unfolding passes
-passes-none zero lowest xs h = refl
-passes-none (suc level) lowest xs h = simp (lt-leb lowest (suc level) h)
-
 -- among bytes the lowest odd level may be taken as 255 where there is none: the highest is then even, so below it
 module _ (xs : List Item) (byte : highest xs < 256) where
   same-passes : (low low′ : ℕ) → (low ≡ low′) ⊎ ((highest xs < low) × (highest xs < low′)) → passes (highest xs) low xs ≡ passes (highest xs) low′ xs
@@ -156,7 +154,17 @@ module _ (xs : List Item) (byte : highest xs < 256) where
       either (inl h) e = inl (omega arith)
       either (inr h) e = inr (omega arith, omega arith)
 
+  pub low-of-bytes : (lowestOdd 255 xs ≡ lowestOdd (suc (highest xs)) xs) ⊎ ((highest xs < lowestOdd 255 xs) × (highest xs < lowestOdd (suc (highest xs)) xs))
+  low-of-bytes = same-low (le-or-lt 255 (highest xs)) (le-or-lt (lowestOdd 255 xs) (suc (highest xs))) (odd-within (suc (highest xs)) xs)
+
   pub L2-of-bytes : passes (highest xs) (lowestOdd 255 xs) xs ≡ L2 xs
   unfolding L2
-  L2-of-bytes = same-passes (lowestOdd 255 xs) (lowestOdd (suc (highest xs)) xs)
-      (same-low (le-or-lt 255 (highest xs)) (le-or-lt (lowestOdd 255 xs) (suc (highest xs))) (odd-within (suc (highest xs)) xs))
+  L2-of-bytes = same-passes (lowestOdd 255 xs) (lowestOdd (suc (highest xs)) xs) low-of-bytes
+
+  -- and so it may in the sum that counts what is reversed
+  pub reverses-of-bytes : slots (lowestOdd 255 xs) (levelsOf xs) ≡ L2reverses xs
+  reverses-of-bytes = go low-of-bytes
+    where
+      go : (lowestOdd 255 xs ≡ lowestOdd (suc (highest xs)) xs) ⊎ ((highest xs < lowestOdd 255 xs) × (highest xs < lowestOdd (suc (highest xs)) xs)) → slots (lowestOdd 255 xs) (levelsOf xs) ≡ L2reverses xs
+      go (inl e) = ap (λ (n : ℕ). slots n (levelsOf xs)) e ∙ sym (reverses-sum xs)
+      go (inr h) = slots-none (lowestOdd 255 xs) xs (h .0) ∙ sym (slots-none (lowestOdd (suc (highest xs)) xs) xs (h .1)) ∙ sym (reverses-sum xs)

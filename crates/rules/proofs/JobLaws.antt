@@ -32,9 +32,10 @@ pub accepted-sound : {A : Type 0} (check : Check) (value n : A) → answered che
 accepted-sound sound value n e = (refl, accepted-value e)
 accepted-sound (refuse number place) value n e = absurd (never-both (sym e))
 
--- where a job accepts, the first places of the buffer are what was to be written
-pub written-front : (check : Check) (wanted buffer after : List ℕ) (answer : Answer ℕ) (k : ℕ) → answer ≡ answered check (length wanted) → after ≡ whereSound check (over wanted buffer) buffer → answer ≡ accepted k → (check ≡ sound) × (take k after ≡ wanted)
-written-front check wanted buffer after answer k a b e =
-    let s = accepted-sound check (length wanted) k (sym a ∙ e) in
+-- where a job accepts, the first places of the buffer are what was to be written; `count` is how many of them it answers
+pub written-front : {A : Type 0} (count : A → ℕ) (check : Check) (value : A) (wanted buffer after : List ℕ) (answer : Answer A) (told : A) → count value ≡ length wanted → answer ≡ answered check value → after ≡ whereSound check (over wanted buffer) buffer → answer ≡ accepted told → (check ≡ sound) × (take (count told) after ≡ wanted)
+written-front count check value wanted buffer after answer told n a b e =
+    let s = accepted-sound check value told (sym a ∙ e) in
     let left : after ≡ over wanted buffer = b ∙ rw (s .0) in
-    (s .0, rw (left, sym (s .1)) (take-append-seam wanted (drop (length wanted) buffer)))
+    let many : count told ≡ length wanted = ap count (sym (s .1)) ∙ n in
+    (s .0, rw (left, many) (take-append-seam wanted (drop (length wanted) buffer)))

@@ -1,5 +1,8 @@
 -- Theorems about the definitions alone.
 pub mod LineLaws
+pub mod PassLaws
+pub mod LowestLaws
+pub mod ReversalLaws
 pub mod BaseTheorem
 pub mod PairLaws
 pub mod CutTheorems
@@ -9,6 +12,7 @@ pub mod EndLaws
 pub mod RefusalTable
 pub mod ToldLaws
 pub mod SoundLaws
+pub mod LowLaws
 pub mod JobLaws
 pub mod EquivalentLaws
 pub mod Ranking

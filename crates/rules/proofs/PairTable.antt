@@ -14,6 +14,7 @@ use Rattle.rules.specs.Neutral.{direction, changeN1, N1, levelDirection,
 use Rattle.rules.specs.Implicit.{I1, I2, implicitLevel}
 use Rattle.rules.specs.Resolve.{resolveRun, resolveRuns, resolveKept, resolvedLevels}
 use Rattle.rules.specs.Line.{blankAhead, L1, items, pass, passes, highest, lowestOdd, L2, lineLevels, lineOrder}
+use Rattle.rules.specs.Reversals.{passReverses, passesReverse, L2reverses, lineReversed}
 use Rattle.rules.specs.Refusals.{checkSome, checkLength, mayEnd, faultAt, firstFault, checkClasses, checkRequest, checkBase, checkLevelRoom, isBadLevel, firstBadLevel, checkLine, checkOrderRoom, checksOfLevels, checksOfOrder, checksOfLine, walk, checksOfCut}
 use Rattle.rules.specs.Jobs.{levelsAnswer, resolveBuffer, lineAnswer, lineBuffer, cutPart}
 use Rattle.rules.specs.Table.{Row, pageRow, removed, computed}
@@ -21,14 +22,14 @@ use Rattle.rules.specs.Table.{Row, pageRow, removed, computed}
 -- CR and its B are at the base level, also under an override, and take the blanks before them along
 abbrev pub pairs : List Row
 pairs =
-    pageRow (R ∷ WS ∷ CR ∷ B ∷ []) 0 0 (1 ∷ 0 ∷ 0 ∷ 0 ∷ []) (0 ∷ 1 ∷ 2 ∷ 3 ∷ []) ∷
-    pageRow (L ∷ WS ∷ CR ∷ B ∷ []) 1 1 (2 ∷ 1 ∷ 1 ∷ 1 ∷ []) (3 ∷ 2 ∷ 1 ∷ 0 ∷ []) ∷
-    pageRow (RLO ∷ L ∷ CR ∷ B ∷ []) 0 0 (removed ∷ 1 ∷ 0 ∷ 0 ∷ []) (1 ∷ 2 ∷ 3 ∷ []) ∷
-    pageRow (RLE ∷ R ∷ WS ∷ CR ∷ []) 0 0 (removed ∷ 1 ∷ 1 ∷ 0 ∷ []) (1 ∷ 2 ∷ 3 ∷ []) ∷
+    pageRow (R ∷ WS ∷ CR ∷ B ∷ []) 0 0 (1 ∷ 0 ∷ 0 ∷ 0 ∷ []) (0 ∷ 1 ∷ 2 ∷ 3 ∷ []) 1 ∷
+    pageRow (L ∷ WS ∷ CR ∷ B ∷ []) 1 1 (2 ∷ 1 ∷ 1 ∷ 1 ∷ []) (3 ∷ 2 ∷ 1 ∷ 0 ∷ []) 5 ∷
+    pageRow (RLO ∷ L ∷ CR ∷ B ∷ []) 0 0 (removed ∷ 1 ∷ 0 ∷ 0 ∷ []) (1 ∷ 2 ∷ 3 ∷ []) 1 ∷
+    pageRow (RLE ∷ R ∷ WS ∷ CR ∷ []) 0 0 (removed ∷ 1 ∷ 1 ∷ 0 ∷ []) (1 ∷ 2 ∷ 3 ∷ []) 1 ∷
     []
 
 pub pairs-hold : map computed pairs ≡ pairs
-unfolding isUnknown isParagraphEnd isOpening isRemoved isStrong isNeutral isSeparator isBlank isPair P2 P3 baseByText baseOf X1 leastGreaterOdd leastGreaterEven opening closing X2 X3 X4 X5 X6level X6type X7 verdict after step levelHere typeHere explicitLevels explicitTypes kept putBack oneLonger runLengths boundaryType changeW1 W1 changeW2 strongW2 W2 changeW3 W3 changeW4 W4 afterStretch stretches isTerminator changeW5 W5 changeW6 W6 changeW7 isSide strongW7 W7 weak direction changeN1 N1 levelDirection changeN2 N2 I1 I2 implicitLevel resolveRun resolveRuns resolveKept resolvedLevels blankAhead L1 items pass passes highest lowestOdd L2 part lineLevels lineOrder checkSome checkLength mayEnd faultAt firstFault checkClasses checkRequest checkBase checkLevelRoom isBadLevel firstBadLevel checkLine checkOrderRoom checksOfLevels checksOfOrder checksOfLine levelsAnswer resolveBuffer lineAnswer lineBuffer
+unfolding isUnknown isParagraphEnd isOpening isRemoved isStrong isNeutral isSeparator isBlank isPair P2 P3 baseByText baseOf X1 leastGreaterOdd leastGreaterEven opening closing X2 X3 X4 X5 X6level X6type X7 verdict after step levelHere typeHere explicitLevels explicitTypes kept putBack oneLonger runLengths boundaryType changeW1 W1 changeW2 strongW2 W2 changeW3 W3 changeW4 W4 afterStretch stretches isTerminator changeW5 W5 changeW6 W6 changeW7 isSide strongW7 W7 weak direction changeN1 N1 levelDirection changeN2 N2 I1 I2 implicitLevel resolveRun resolveRuns resolveKept resolvedLevels blankAhead L1 items pass passes highest lowestOdd L2 part lineLevels lineOrder passReverses passesReverse L2reverses lineReversed checkSome checkLength mayEnd faultAt firstFault checkClasses checkRequest checkBase checkLevelRoom isBadLevel firstBadLevel checkLine checkOrderRoom checksOfLevels checksOfOrder checksOfLine levelsAnswer resolveBuffer lineAnswer lineBuffer
 pairs-hold = refl
 
 -- a text, and the paragraph that Cut gives

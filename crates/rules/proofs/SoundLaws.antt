@@ -61,6 +61,7 @@ pub record OrderSound (cs levels : List ℕ) (base : ℕ) : Type 0 where
   pub few : length cs ≤ longestParagraph
   pub low : base ≤ 1
   pub fits : length cs ≤ length levels
+  pub right : firstBadLevel 0 cs levels ≡ sound
 
 order-sound : (cs levels : List ℕ) (base : ℕ) → checksOfOrder cs levels base ≡ sound → OrderSound cs levels base
 unfolding checksOfOrder checkBase checkLevelRoom
@@ -72,6 +73,7 @@ order-sound cs levels base e =
       few = classes-length cs (both .0);
       low = ltb-false 1 base (test-fails _ _ (later .0));
       fits = ltb-false (length levels) (length cs) (test-fails _ _ (last .0));
+      right = last .1;
     }
 
 pub record LineSound (cs levels : List ℕ) (base from to room : ℕ) : Type 0 where

@@ -8,6 +8,7 @@ use Rattle.rules.specs.Paragraph.{P1, baseByText, baseOf}
 use Rattle.rules.specs.Explicit.{X1, explicitLevels}
 use Rattle.rules.specs.Resolve.{resolvedLevels}
 use Rattle.rules.specs.Line.{lineOrder, allOrders}
+use Rattle.rules.specs.Reversals.{lineReversed, allReversed}
 use Rattle.rules.specs.Refusals.{Check, byCheck, checksOfCut, checksOfBase, checksOfLevels, checksOfLine, checksOfLines, checksOfMarks}
 
 -- a job accepts and answers a value, or refuses with a number and a place
@@ -49,18 +50,30 @@ resolveBuffer cs request fallback levels =
     let base = baseOf request fallback cs in
     whereSound (checksOfLevels cs request fallback (length levels)) (over (resolvedLevels base cs) levels) levels
 
--- Order answers how many positions it ordered, and writes them from left to right
-unfoldable pub lineAnswer : List ℕ → List ℕ → ℕ → ℕ → ℕ → List ℕ → Answer ℕ
+-- Order answers how many positions it placed and how many the passes reversed, and writes the positions from left to right
+pub record Placing : Type 0 where
+  pub placed : ℕ
+  pub reversed : ℕ
+
+abbrev pub linePlacing : List ℕ → List ℕ → ℕ → ℕ → ℕ → Placing
+linePlacing cs levels base from to =
+    record { placed = length (lineOrder base cs levels from to); reversed = lineReversed base cs levels from to }
+
+unfoldable pub lineAnswer : List ℕ → List ℕ → ℕ → ℕ → ℕ → List ℕ → Answer Placing
 lineAnswer cs levels base from to order =
-    answered (checksOfLine cs levels base from to (length order)) (length (lineOrder base cs levels from to))
+    answered (checksOfLine cs levels base from to (length order)) (linePlacing cs levels base from to)
 
 unfoldable pub lineBuffer : List ℕ → List ℕ → ℕ → ℕ → ℕ → List ℕ → List ℕ
 lineBuffer cs levels base from to order =
     whereSound (checksOfLine cs levels base from to (length order)) (over (lineOrder base cs levels from to) order) order
 
-unfoldable pub linesAnswer : List ℕ → List ℕ → ℕ → List ℕ → List ℕ → Answer ℕ
+abbrev pub linesPlacing : List ℕ → List ℕ → ℕ → List ℕ → Placing
+linesPlacing cs levels base ends =
+    record { placed = length (allOrders base cs levels 0 ends); reversed = allReversed base cs levels 0 ends }
+
+unfoldable pub linesAnswer : List ℕ → List ℕ → ℕ → List ℕ → List ℕ → Answer Placing
 linesAnswer cs levels base ends order =
-    answered (checksOfLines cs levels base ends (length order)) (length (allOrders base cs levels 0 ends))
+    answered (checksOfLines cs levels base ends (length order)) (linesPlacing cs levels base ends)
 
 unfoldable pub linesBuffer : List ℕ → List ℕ → ℕ → List ℕ → List ℕ → List ℕ
 linesBuffer cs levels base ends order =

@@ -25,6 +25,7 @@ pub mod Neutral
 pub mod Implicit
 pub mod Resolve
 pub mod Line
+pub mod Reversals
 pub mod Canonical
 pub mod Stacking
 pub mod Examples

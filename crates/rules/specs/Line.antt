@@ -70,10 +70,13 @@ L2 xs = passes (highest xs) (lowestOdd (suc (highest xs)) xs) xs
 unfoldable pub lineLevels : ℕ → List ℕ → List ℕ → ℕ → ℕ → List ℕ
 lineLevels base cs ls from to = L1 base (part from to cs) (part from to ls)
 
--- the order of the line from one position up to, not including, another: positions from left to right
+-- the kept positions of the line from one position up to, not including, another, with their levels on it
+abbrev pub lineKept : ℕ → List ℕ → List ℕ → ℕ → ℕ → List Item
+lineKept base cs ls from to = items from (part from to cs) (lineLevels base cs ls from to)
+
+-- the order of that line: positions from left to right
 unfoldable pub lineOrder : ℕ → List ℕ → List ℕ → ℕ → ℕ → List ℕ
-lineOrder base cs ls from to =
-    positionsOf (L2 (items from (part from to cs) (lineLevels base cs ls from to)))
+lineOrder base cs ls from to = positionsOf (L2 (lineKept base cs ls from to))
 
 -- the orders of the lines with the given ends, each following the last one's
 unfoldable pub allOrders : ℕ → List ℕ → List ℕ → ℕ → List ℕ → List ℕ

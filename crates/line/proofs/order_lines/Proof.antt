@@ -1,19 +1,19 @@
--- `line::order_lines` meets its contract. The invariant: the lines before number i are ordered, one after the other. The measure is the number of lines left.
+-- `line::order_lines` meets its contract. The invariant: the lines before number i are ordered, one after the other, and their counts added up. The measure is the number of lines left.
 -- Assumes nothing.
 use native.Mathlib.Omega.{arith}
 use mathlib.Core.Path.{refl}
 use Prim.Native.Nat.{_-_}
 use lib.ListN.{length}
-use Rattle.line.proofs.LineLaws.{Lines, lines-begun, next-line, lent-room, count-next, lines-next, lines-ended}
+use Rattle.line.proofs.LineLaws.{Lines, lines-begun, next-line, lent-room, count-next, reversed-few, lines-next, lines-ended}
 use borrow.Author.Needs.{needs}
 use Rattle.line.proofs.order_lines.Statement.{statement}
 use Rattle.line.proofs.order_lines.Tie as tie
 
 abbrev Inv-loop : tie.InvT-loop
-Inv-loop classes levels base ends order₀ from₀ count₀ i₀ order from count i = Lines base classes levels ends order₀ order from count i
+Inv-loop classes levels base ends order₀ from₀ count₀ reversed₀ i₀ order from count reversed i = Lines base classes levels ends order₀ order from count reversed i
 
 abbrev μ-loop : tie.MeasureT-loop
-μ-loop classes levels base ends order₀ from₀ count₀ i₀ order from count i = length ends - i
+μ-loop classes levels base ends order₀ from₀ count₀ reversed₀ i₀ order from count reversed i = length ends - i
 
 loop-holds : tie.Need-loop-holds Inv-loop μ-loop
 loop-holds c = lines-begun _ _ _ _ _ (search needs)
@@ -38,7 +38,7 @@ order-line-requires c κs =
     let at-loop = c .before .before .before in
     let start = at-loop .before .before .before .before .before in
     let args = start .args in
-    let w = next-line (args .base) (args .classes .now) (args .levels .now) (args .ends .now) (args .order .now) _ _ _ _ (at-loop .loop .inv) (c .before .before .loop-test .taken) _ (c .before .end-at .ensures) in (
+    let w = next-line (args .base) (args .classes .now) (args .levels .now) (args .ends .now) (args .order .now) _ _ _ _ _ (at-loop .loop .inv) (c .before .before .loop-test .taken) _ (c .before .end-at .ensures) in (
       search needs,
       (
         w .1,
@@ -46,7 +46,7 @@ order-line-requires c κs =
           search needs,
           (
             search needs,
-            lent-room (args .base) (args .classes .now) (args .levels .now) (args .ends .now) (args .order .now) _ _ _ _ (at-loop .loop .inv) (c .before .before .loop-test .taken) _ (c .before .end-at .ensures) (search needs),
+            lent-room (args .base) (args .classes .now) (args .levels .now) (args .ends .now) (args .order .now) _ _ _ _ _ (at-loop .loop .inv) (c .before .before .loop-test .taken) _ (c .before .end-at .ensures) (search needs),
           ),
         ),
       ),
@@ -54,12 +54,22 @@ order-line-requires c κs =
 
 add-count : tie.Need-add-count Inv-loop μ-loop
 add-count c =
-    let ended = c .before .before .before .before in
+    let ended = c .before .before .before .before .before in
     let at-loop = ended .before .before in
     let start = at-loop .before .before .before .before .before in
     let args = start .args in
-    let w = next-line (args .base) (args .classes .now) (args .levels .now) (args .ends .now) (args .order .now) _ _ _ _ (at-loop .loop .inv) (ended .before .loop-test .taken) _ (ended .end-at .ensures) in
-    let n = count-next (args .base) (args .classes .now) (args .levels .now) (args .ends .now) (args .order .now) _ _ _ _ (at-loop .loop .inv) (ended .before .loop-test .taken) _ (ended .end-at .ensures) _ _ (c .before .before .order-line .ensures .count) in
+    let w = next-line (args .base) (args .classes .now) (args .levels .now) (args .ends .now) (args .order .now) _ _ _ _ _ (at-loop .loop .inv) (ended .before .loop-test .taken) _ (ended .end-at .ensures) in
+    let n = count-next (args .base) (args .classes .now) (args .levels .now) (args .ends .now) (args .order .now) _ _ _ _ _ (at-loop .loop .inv) (ended .before .loop-test .taken) _ (ended .end-at .ensures) _ _ (c .before .before .before .order-line .ensures .counted) in
+    omega arith
+
+add-reversed : tie.Need-add-reversed Inv-loop μ-loop
+add-reversed c =
+    let ended = c .before .before .before .before .before .before in
+    let at-loop = ended .before .before in
+    let start = at-loop .before .before .before .before .before in
+    let args = start .args in
+    let w = next-line (args .base) (args .classes .now) (args .levels .now) (args .ends .now) (args .order .now) _ _ _ _ _ (at-loop .loop .inv) (ended .before .loop-test .taken) _ (ended .end-at .ensures) in
+    let n = reversed-few (args .base) (args .classes .now) (args .levels .now) (args .ends .now) (args .order .now) _ _ _ _ _ (at-loop .loop .inv) (ended .before .loop-test .taken) _ (ended .end-at .ensures) _ (c .before .before .before .before .order-line .ensures) in
     omega arith
 
 add-i : tie.Need-add-i Inv-loop μ-loop
@@ -70,12 +80,12 @@ loop-less c = search needs
 
 loop-again : tie.Need-loop-again Inv-loop μ-loop
 loop-again c =
-    let ended = c .before .before .before .before in
+    let ended = c .before .before .before .before .before .before in
     let at-loop = ended .before .before in
     let start = at-loop .before .before .before .before .before in
     let args = start .args in
-    lines-next (args .base) (args .classes .now) (args .levels .now) (args .ends .now) (args .order .now) _ _ _ _ (at-loop .loop .inv) (ended .before .loop-test .taken) _ (ended .end-at .ensures)
-    _ _ _ (search needs) (c .before .before .order-line .ensures) refl
+    lines-next (args .base) (args .classes .now) (args .levels .now) (args .ends .now) (args .order .now) _ _ _ _ _ (at-loop .loop .inv) (ended .before .loop-test .taken) _ (ended .end-at .ensures)
+    _ _ _ (search needs) (c .before .before .before .before .order-line .ensures) refl
 
 same-length : tie.Need-same-length Inv-loop μ-loop
 same-length c = search needs
@@ -83,7 +93,7 @@ same-length c = search needs
 returns : tie.Need-returns Inv-loop μ-loop
 returns c =
     let args = c .before .before .before .before .before .before .args in
-    lines-ended (args .base) (args .classes .now) (args .levels .now) (args .ends .now) (args .order .now) _ _ _ _ (c .before .loop .inv) (search needs) (c .loop-test .left)
+    lines-ended (args .base) (args .classes .now) (args .levels .now) (args .ends .now) (args .order .now) _ _ _ _ _ (c .before .loop .inv) (search needs) (c .loop-test .left)
 
 pub order-lines-spec : {M : Type 1} → statement M
 order-lines-spec =
@@ -99,6 +109,7 @@ order-lines-spec =
     part-order-line-end
     order-line-requires
     add-count
+    add-reversed
     add-i
     loop-less
     loop-again

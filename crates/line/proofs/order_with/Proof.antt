@@ -1,12 +1,13 @@
--- `line::order_with` meets its contract: what the reset, the gathering, the two bounds and the passes leave in turn is the order of the line; where no odd
--- level is reached the passes are none.
+-- `line::order_with` meets its contract: what the reset, the gathering, the two bounds and the passes leave in turn is the order of the line, and the sum over its
+-- levels is what the passes reverse; where no odd level is reached the passes are none.
 -- Assumes nothing.
 use Prim.Native.Nat.{_≤_}
+use native.Mathlib.Omega.{arith}
 use mathlib.Core.Path.{sym}
 use lib.ListN.{length}
 use lib.Seq.{length-take-le}
 use Rattle.reversal.proofs.PassLaws.{none-below}
-use Rattle.line.proofs.LineLaws.{count-within, line-ordered}
+use Rattle.line.proofs.LineLaws.{lowest-some, count-within, none-reversed, line-ordered}
 use borrow.Author.Needs.{needs}
 use Rattle.line.proofs.order_with.Statement.{statement}
 use Rattle.line.proofs.order_with.Tie as tie
@@ -54,7 +55,8 @@ returns c =
     let start = r .before .before .before .before .before .before in
     let args = start .args in
     line-ordered (args .base) (args .from) (args .classes .now) (args .levels .now) (args .work .now) _ _ _ _ _ (start .pre .0) (r .reset .ensures) (g .gather .ensures)
-    _ _ _ (search needs) (highest .highest-level .ensures) (c .before .lowest-odd-level .ensures) (none-below _ _ _ _ (c .if1 .taken))
+    _ _ _ _ (search needs) (highest .highest-level .ensures) (c .before .lowest-odd-level .ensures) (none-below _ _ _ _ (c .if1 .taken))
+    (none-reversed (args .base) (args .from) (args .classes .now) (args .levels .now) (args .work .now) _ _ _ _ _ (start .pre .0) (r .reset .ensures) (g .gather .ensures) _ _ (highest .highest-level .ensures) (c .if1 .taken))
 
 reversal-pass-requires : tie.Need-reversal-pass-requires
 reversal-pass-requires c κs =
@@ -62,6 +64,15 @@ reversal-pass-requires c κs =
     let n = count-kept gathered in
     let e = length-take-le (gathered .gather .result) (gathered .gather .last .1 .1 .0) (kept-within gathered) in
     search needs
+
+reversed-requires : tie.Need-reversed-requires
+reversed-requires c κs =
+    let lowest = c .before .before .before .before .before in
+    let gathered = lowest .before .before .before .before .before .before .before in
+    let n = count-kept gathered in
+    let e = length-take-le (gathered .gather .result) (gathered .gather .last .1 .1 .0) (kept-within gathered) in
+    let start = gathered .before .before .before .before .before .before .before .before .before .before .before in
+    (lowest-some _ (lowest .lowest-odd-level .ensures), omega (arith, start .pre .1 .1 .1 .0))
 
 same-length-3 : tie.Need-same-length-3
 same-length-3 c = search needs
@@ -71,7 +82,7 @@ same-length-4 c = search needs
 
 returns-2 : tie.Need-returns-2
 returns-2 c =
-    let passed = c .before .before in
+    let passed = c .before .before .before in
     let lowest = passed .before .before .before in
     let highest = lowest .before in
     let g = highest .before .before .before .before .before .before in
@@ -79,7 +90,7 @@ returns-2 c =
     let start = r .before .before .before .before .before .before in
     let args = start .args in
     line-ordered (args .base) (args .from) (args .classes .now) (args .levels .now) (args .work .now) _ _ _ _ _ (start .pre .0) (r .reset .ensures) (g .gather .ensures)
-    _ _ _ (search needs) (highest .highest-level .ensures) (lowest .lowest-odd-level .ensures) (passed .reversal-pass .ensures)
+    _ _ _ _ (search needs) (highest .highest-level .ensures) (lowest .lowest-odd-level .ensures) (passed .reversal-pass .ensures) (c .reversed .ensures)
 
 pub order-with-spec : {M : Type 1} → statement M
 order-with-spec =
@@ -95,6 +106,7 @@ order-with-spec =
     same-length-2
     returns
     reversal-pass-requires
+    reversed-requires
     same-length-3
     same-length-4
     returns-2)
