@@ -4,7 +4,7 @@ use Prim.Native.Nat.{ℕ}
 use mathlib.Core.Path.{_≡_, refl}
 use mathlib.Core.List.{List}
 use mathlib.Core.Option.{Option, none, some}
-use Rattle.rules.specs.Jobs.{Answer, accepted, refused, cutAnswer, cutPart, baseAnswer, levelsAnswer, explicitBuffer, resolveBuffer}
+use Rattle.rules.specs.Jobs.{Answer, accepted, refused, Placing, cutAnswer, cutPart, baseAnswer, levelsAnswer, explicitBuffer, resolveBuffer}
 use Rattle.laws.proofs.Determined.{determined, told-apart}
 use Rattle.refusals.specs.Page.{refusalWith}
 use Rattle.melvorash.specs.Answers.{cutPage, basePage, levelsPage, orderPage, Leaves, OrdersLine, OrdersLines}
@@ -48,8 +48,8 @@ levels-reads : (r : LevelsAnswer) → levelsBack (levelsPage r) ≡ r
 levels-reads (Levelling.Base l) = refl
 levels-reads (Levelling.Refused r) = refl
 
-abbrev orderBack : Answer ℕ → OrderAnswer
-orderBack (accepted n) = Ordering.Ordered (record { count = n })
+abbrev orderBack : Answer Placing → OrderAnswer
+orderBack (accepted p) = Ordering.Ordered (record { count = p .placed; reversed = p .reversed })
 orderBack (refused n p) = Ordering.Refused (refusalWith n p)
 
 order-reads : (r : OrderAnswer) → orderBack (orderPage r) ≡ r

@@ -1,11 +1,11 @@
 -- How high the written levels are, and that Order takes what Resolve wrote. Assumes nothing.
-use Prim.Native.Nat.{ℕ, suc, _-_, _≤_}
+use Prim.Native.Nat.{ℕ, _-_, _≤_}
 use native.Mathlib.Omega.{arith}
 use mathlib.Core.Path.{_≡_, refl, sym, ap, _∙_}
 use mathlib.Core.Bool.{Bool, true, false, _||_, not}
 use mathlib.Core.Logic.{_⊎_, inl, inr}
 use mathlib.Core.List.{List, [], _∷_, _++_}
-use borrow.Author.Tests.{le-ltb, ltb-false}
+use borrow.Author.Tests.{le-ltb}
 use lib.Dec.{leb, ltb}
 use lib.ListN.{length, drop, length-append, length-drop}
 use Rattle.laws.specs.Choice.{if_then_else_}
@@ -13,14 +13,15 @@ use Rattle.rules.specs.Classes.{isRemoved}
 use Rattle.rules.specs.Paragraph.{baseOf}
 use Rattle.rules.specs.Explicit.{highestExplicit, X1, explicitLevels, kept}
 use Rattle.rules.specs.Resolve.{resolvedLevels}
-use Rattle.rules.specs.Refusals.{highestResolved, sound, refuse, _andThen_, refuseWhere, checkBase, checkLevelRoom, isBadLevel, firstBadLevel, isEmpty, endsRiseTo, checkLine, checkEnds, checkOrderRoom, checksOfLevels, checksOfOrder, checksOfLine, checksOfLines}
+use Rattle.rules.specs.Refusals.{highestResolved, sound, _andThen_, refuseWhere, checkBase, checkLevelRoom, firstBadLevel, isEmpty, endsRiseTo, checkLine, checkEnds, checkOrderRoom, checksOfLevels, checksOfOrder, checksOfLine, checksOfLines}
 use Rattle.laws.specs.Parts.{over}
 use Rattle.rules.specs.Jobs.{Answer, accepted, refused, answered, levelsAnswer, explicitBuffer, resolveBuffer, lineAnswer, linesAnswer}
-use Rattle.laws.proofs.Passes.{by-test}
-use Rattle.rules.proofs.SoundLaws.{never-sound, levels-sound}
+use Rattle.rules.proofs.SoundLaws.{levels-sound}
 use Rattle.rules.proofs.BaseTheorem.{baseOf-small}
 use Rattle.explicit.proofs.ExplicitLaws.{length-levels, kept-low}
-use Rattle.resolve.proofs.BoundLaws.{AtMost, at-most-all, resolved-accepted}
+use Rattle.laws.proofs.Every.{AtMost}
+use Rattle.rules.proofs.LowLaws.{kept-fit}
+use Rattle.resolve.proofs.BoundLaws.{at-most-all, resolved-accepted}
 use Rattle.resolve.proofs.WholeLaws.{length-resolved}
 use Rattle.rules.proofs.JobLaws.{accepted-sound, never-both}
 use Rattle.melvorash.specs.Answers.{Leaves}
@@ -32,22 +33,6 @@ kept-over [] xs rest e = refl
 kept-over (c ∷ cs) [] rest e = absurd (omega arith)
 kept-over (c ∷ cs) (x ∷ xs) rest e =
     ap (λ (ys : List ℕ). if isRemoved c then ys else x ∷ ys) (kept-over cs xs rest (omega arith))
-
-level-fits : (c l : ℕ) → isRemoved c ≡ false → isBadLevel c l ≡ false → l ≤ highestResolved
-unfolding isBadLevel
-level-fits c l r e = let t : ltb highestResolved l ≡ false = rw r at e in ltb-false highestResolved l t
-
-kept-fit : (at : ℕ) (cs ls : List ℕ) → firstBadLevel at cs ls ≡ sound → AtMost highestResolved (kept cs ls)
-unfolding firstBadLevel kept
-kept-fit at [] ls e = tt
-kept-fit at (c ∷ cs) [] e = tt
-kept-fit at (c ∷ cs) (l ∷ ls) e =
-    by-test (isBadLevel c l)
-    (λ b. let z : refuse 7 at ≡ sound = rw b at e in absurd (never-sound z))
-    (λ b. let next : firstBadLevel (suc at) cs ls ≡ sound = rw b at e in
-    by-test (isRemoved c)
-    (λ r. rw r (kept-fit (suc at) cs ls next))
-    (λ r. rw r (level-fits c l r b, kept-fit (suc at) cs ls next)))
 
 -- ---- what Explicit and Resolve leave when they accept
 module _ (cs : List ℕ) (request fallback : ℕ) (levels : List ℕ) (answer : Answer ℕ) (after : List ℕ) (base : ℕ) where
@@ -99,10 +84,10 @@ module _ (cs : List ℕ) (request fallback : ℕ) (levels : List ℕ) (answer : 
         rw (s .classes, le-ltb 1 base low, le-ltb (length after) (length cs) room, none-bad)
 
 -- ---- so it can refuse only with the line's own numbers
-refused-number : {m n p q : ℕ} → _≡_ {A = Answer ℕ} (refused m p) (refused n q) → m ≡ n
+refused-number : {A : Type 0} {m n p q : ℕ} → _≡_ {A = Answer A} (refused m p) (refused n q) → m ≡ n
 refused-number e = cc
 
-two-tests : (b d : Bool) (m n value number place : ℕ) → answered (refuseWhere b m andThen refuseWhere d n) value ≡ refused number place → (number ≡ m) ⊎ (number ≡ n)
+two-tests : {A : Type 0} (b d : Bool) (m n : ℕ) (value : A) (number place : ℕ) → answered (refuseWhere b m andThen refuseWhere d n) value ≡ refused number place → (number ≡ m) ⊎ (number ≡ n)
 two-tests true d m n value number place e = inl (sym (refused-number e))
 two-tests false true m n value number place e = inr (sym (refused-number e))
 two-tests false false m n value number place e = absurd (never-both e)

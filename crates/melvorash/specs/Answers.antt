@@ -1,11 +1,13 @@
 -- What each answer means on the page, and what a job promises: its answer and the buffer it was lent, for every input.
-use Prim.Native.Nat.{ℕ}
+use Prim.Native.Nat.{ℕ, _*_, _≤_}
 use mathlib.Core.Path.{_≡_}
 use mathlib.Core.List.{List}
 use mathlib.Core.Option.{Option, none, some}
 use lib.ListN.{take}
-use Rattle.rules.specs.Line.{lineLevels}
-use Rattle.rules.specs.Jobs.{Answer, accepted, refused, lineAnswer, lineBuffer, linesAnswer, linesBuffer}
+use Rattle.rules.specs.Line.{lineLevels, lineKept}
+use Rattle.rules.specs.Refusals.{highestResolved}
+use Rattle.rules.specs.Reversals.{Counted, EachCounted}
+use Rattle.rules.specs.Jobs.{Answer, accepted, refused, Placing, lineAnswer, lineBuffer, linesAnswer, linesBuffer}
 use Rattle.pairwise.specs.Demand3.{Displayed, EachDisplayed}
 use Rattle.melvorash.specs.declared.answers.CutAnswer.{CutAnswer}
 use Rattle.melvorash.specs.declared.answers.CutAnswer.the-variants as Cutting
@@ -16,8 +18,8 @@ use Rattle.melvorash.specs.declared.answers.LevelsAnswer.the-variants as
 use Rattle.melvorash.specs.declared.answers.OrderAnswer.{OrderAnswer}
 use Rattle.melvorash.specs.declared.answers.OrderAnswer.the-variants as Ordering
 
--- the length, the base level or none found, the base level used or the count of positions placed; or the refusal's number
--- and place
+-- the length, the base level or none found, the base level used, or how many positions were placed and reversed; or the
+-- refusal's number and place
 abbrev pub cutPage : CutAnswer → Answer ℕ
 cutPage (Cutting.Length n) = accepted n
 cutPage (Cutting.Refused r) = refused (r .number) (r .place)
@@ -31,8 +33,8 @@ abbrev pub levelsPage : LevelsAnswer → Answer ℕ
 levelsPage (Levelling.Base l) = accepted l
 levelsPage (Levelling.Refused r) = refused (r .number) (r .place)
 
-abbrev pub orderPage : OrderAnswer → Answer ℕ
-orderPage (Ordering.Ordered p) = accepted (p .count)
+abbrev pub orderPage : OrderAnswer → Answer Placing
+orderPage (Ordering.Ordered p) = accepted (record { placed = p .count; reversed = p .reversed })
 orderPage (Ordering.Refused r) = refused (r .number) (r .place)
 
 -- how long a part an answer of Cut gives: the paragraph's length, and 0 where it refuses
@@ -47,12 +49,17 @@ pub record Leaves {A : Type 0} (wanted : Answer A) (left : List ℕ) (answer : A
   pub told : answer ≡ wanted
   pub buffer : after ≡ left
 
--- Order of one line: also, where it accepts, what it wrote displays the line as demand 3 has it
-pub record OrdersLine (cs levels : List ℕ) (base from to : ℕ) (order : List ℕ) (answer : Answer ℕ) (after : List ℕ) : Type 0 where
+-- Order of one line: also, where it accepts, what it wrote displays the line as demand 3 has it, and what it counted is what
+-- ticket 6 says, the limit of levels being named in its last part alone
+pub record OrdersLine (cs levels : List ℕ) (base from to : ℕ) (order : List ℕ) (answer : Answer Placing) (after : List ℕ) : Type 0 where
   pub leaves : Leaves (lineAnswer cs levels base from to order) (lineBuffer cs levels base from to order) answer after
-  pub display : (k : ℕ) → answer ≡ accepted k → Displayed cs (lineLevels base cs levels from to) (take k after) from to
+  pub display : (p : Placing) → answer ≡ accepted p → Displayed cs (lineLevels base cs levels from to) (take (p .placed) after) from to
+  pub counted : (p : Placing) → answer ≡ accepted p → Counted (lineKept base cs levels from to) (p .reversed)
+  pub most : (p : Placing) → answer ≡ accepted p → p .reversed ≤ highestResolved * p .placed
 
--- Order of all lines: the same for each line in turn
-pub record OrdersLines (cs levels : List ℕ) (base : ℕ) (ends order : List ℕ) (answer : Answer ℕ) (after : List ℕ) : Type 0 where
+-- Order of all lines: the same for each line in turn, and of the sum of their counts
+pub record OrdersLines (cs levels : List ℕ) (base : ℕ) (ends order : List ℕ) (answer : Answer Placing) (after : List ℕ) : Type 0 where
   pub leaves : Leaves (linesAnswer cs levels base ends order) (linesBuffer cs levels base ends order) answer after
-  pub display : (k : ℕ) → answer ≡ accepted k → EachDisplayed base cs levels 0 ends (take k after)
+  pub display : (p : Placing) → answer ≡ accepted p → EachDisplayed base cs levels 0 ends (take (p .placed) after)
+  pub counted : (p : Placing) → answer ≡ accepted p → EachCounted base cs levels 0 ends (p .reversed)
+  pub most : (p : Placing) → answer ≡ accepted p → p .reversed ≤ highestResolved * p .placed

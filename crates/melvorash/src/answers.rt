@@ -1,4 +1,5 @@
 // What the jobs answer: a value, or the refusal.
+use line::Placed;
 use refusals::Refusal;
 
 // The first paragraph's length.
@@ -20,11 +21,7 @@ pub enum LevelsAnswer {
     Refused(Refusal),
 }
 
-// What ordering did: how many positions it placed.
-pub struct Placed {
-    pub count: usize,
-}
-
+// What ordering did: how many positions it placed, and how many the passes reversed.
 pub enum OrderAnswer {
     Ordered(Placed),
     Refused(Refusal),

@@ -1,6 +1,5 @@
-// Order: the positions of one line, or of all lines, from left to right.
+// Order: the positions of one line, or of all lines, from left to right, and how many positions the passes reversed.
 use crate::answers::OrderAnswer;
-use crate::answers::Placed;
 use refusals::Checked;
 ghost use Rattle.melvorash.specs.Answers.{orderPage, OrdersLine, OrdersLines};
 
@@ -19,8 +18,8 @@ pub fn order_line(
     match checked {
         Checked::Refused(refusal) => OrderAnswer::Refused(refusal),
         Checked::Sound => {
-            let count = line::order_line(classes, levels, base, from, to, order);
-            OrderAnswer::Ordered(Placed { count })
+            let placed = line::order_line(classes, levels, base, from, to, order);
+            OrderAnswer::Ordered(placed)
         }
     }
 }
@@ -40,7 +39,7 @@ pub fn order_lines(
         Checked::Refused(fault) => OrderAnswer::Refused(fault),
         Checked::Sound => {
             let total = line::order_lines(classes, levels, base, ends, order);
-            OrderAnswer::Ordered(Placed { count: total })
+            OrderAnswer::Ordered(total)
         }
     }
 }

@@ -3,21 +3,29 @@ use marks::MarksAnswer;
 use melvorash::BaseAnswer;
 use melvorash::CutAnswer;
 use melvorash::LevelsAnswer;
-use melvorash::OrderAnswer;
 use refusals::Refusal;
 ghost use mathlib.Core.Path.{_≡_};
 ghost use Rattle.rules.specs.Jobs.{accepted, refused};
 ghost use Rattle.marks.specs.Answers.{marksPage};
 ghost use Rattle.melvorash.specs.Answers.{cutPage, basePage, levelsPage, orderPage};
-ghost use Rattle.melvorash_c.specs.Boundary.{levelOrNone, numbersOf};
+ghost use Rattle.melvorash_c.specs.Boundary.{levelOrNone, numbersOf, orderNumbersOf};
 
 // Accepted: refusal 0, place 0 and what the job answers. Refused: the page's number and place, value 0.
-// Three numbers of one width leave no padding, so every byte of an answer is determined.
+// Numbers of one width leave no padding, so every byte of an answer is determined.
 #[repr(C)]
 pub struct Answer {
     pub refusal: usize,
     pub place: usize,
     pub value: usize,
+}
+
+// The answer of an order: how many positions were reversed, too. Refused: value and reversed 0.
+#[repr(C)]
+pub struct OrderAnswer {
+    pub refusal: usize,
+    pub place: usize,
+    pub value: usize,
+    pub reversed: usize,
 }
 
 // The value where Base finds no level.
@@ -47,8 +55,22 @@ fn of_refusal(refusal: Refusal) -> Answer
     }
 }
 
-// Each job's answer: the paragraph's length, the base level or none found, the base level used, the count of positions
-// placed, the count of characters drawn.
+// An order that is refused.
+fn of_refused_order(refusal: Refusal) -> OrderAnswer
+    ensures { λ r. ⌜ r ≡ orderNumbersOf (refused (refusal .number) (refusal .place)) ⌝ }
+{
+    let number = refusal.number;
+    let place = refusal.place;
+    OrderAnswer {
+        refusal: number as usize,
+        place,
+        value: 0,
+        reversed: 0,
+    }
+}
+
+// Each job's answer: the paragraph's length, the base level or none found, the base level used, the counts of positions
+// placed and reversed, the count of characters drawn.
 pub(crate) fn of_cut(answer: CutAnswer) -> Answer
     ensures { λ r. ⌜ r ≡ numbersOf (cutPage answer) ⌝ }
 {
@@ -77,12 +99,17 @@ pub(crate) fn of_levels(answer: LevelsAnswer) -> Answer
     }
 }
 
-pub(crate) fn of_order(answer: OrderAnswer) -> Answer
-    ensures { λ r. ⌜ r ≡ numbersOf (orderPage answer) ⌝ }
+pub(crate) fn of_order(answer: melvorash::OrderAnswer) -> OrderAnswer
+    ensures { λ r. ⌜ r ≡ orderNumbersOf (orderPage answer) ⌝ }
 {
     match answer {
-        OrderAnswer::Ordered(placed) => of_value(placed.count),
-        OrderAnswer::Refused(refusal) => of_refusal(refusal),
+        melvorash::OrderAnswer::Ordered(placed) => OrderAnswer {
+            refusal: 0,
+            place: 0,
+            value: placed.count,
+            reversed: placed.reversed,
+        },
+        melvorash::OrderAnswer::Refused(refusal) => of_refused_order(refusal),
     }
 }
 

@@ -16,6 +16,7 @@ use Rattle.rules.specs.Weak.{weak}
 use Rattle.rules.specs.Neutral.{N1, N2}
 use Rattle.rules.specs.Resolve.{resolveRun, resolveRuns, resolveKept, resolvedLevels}
 use Rattle.rules.specs.Refusals.{sound, highestResolved, isBadLevel, firstBadLevel}
+use Rattle.laws.proofs.Every.{AtMost, every-append}
 use Rattle.laws.proofs.Passes.{by-test}
 use Rattle.explicit.proofs.ExplicitLaws.{length-levels, length-kept-types, kept-low}
 use Rattle.weak.proofs.WeakLaws.{length-weak}
@@ -25,13 +26,8 @@ use Rattle.resolve.proofs.ScatterLaws.{keptIn, kept-is, kept-one}
 use Rattle.resolve.proofs.WholeLaws.{length-kept-in}
 
 -- ---- lists whose every element is at most a number
-abbrev pub AtMost : ℕ → List ℕ → Type 0
-AtMost n [] = Unit {0}
-AtMost n (x ∷ xs) = (x ≤ n) × AtMost n xs
-
 at-most-append : (n : ℕ) (xs ys : List ℕ) → AtMost n xs → AtMost n ys → AtMost n (xs ++ ys)
-at-most-append n [] ys p q = q
-at-most-append n (x ∷ xs) ys p q = (p .0, at-most-append n xs ys (p .1) q)
+at-most-append n xs ys p q = every-append (λ (x : ℕ). x ≤ n) xs ys p q
 
 at-most-map : (n : ℕ) (f : ℕ → ℕ) → ((t : ℕ) → f t ≤ n) → (ts : List ℕ) → AtMost n (map f ts)
 at-most-map n f h [] = tt

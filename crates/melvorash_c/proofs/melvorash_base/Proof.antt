@@ -16,7 +16,7 @@ of-base-requires c κs = search needs
 returns : tie.Need-returns
 returns c =
     let told = ap levelOrNone (c .before .base .ensures) in
-    exports _ (c .of-base .ensures) told (base-reads _) told
+    exports _ _ _ (c .of-base .ensures) told (base-reads _) told
 
 pub melvorash-base-spec : {M : Type 1} → statement M
 melvorash-base-spec = tie.close (tie.spec base-requires of-base-requires returns)

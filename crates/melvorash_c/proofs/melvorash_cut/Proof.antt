@@ -12,7 +12,7 @@ of-cut-requires : tie.Need-of-cut-requires
 of-cut-requires c κs = search needs
 
 returns : tie.Need-returns
-returns c = exports _ (c .of-cut .ensures) (c .before .cut .ensures) (cut-reads _) (c .before .cut .ensures)
+returns c = exports _ _ _ (c .of-cut .ensures) (c .before .cut .ensures) (cut-reads _) (c .before .cut .ensures)
 
 pub melvorash-cut-spec : {M : Type 1} → statement M
 melvorash-cut-spec = tie.close (tie.spec cut-requires of-cut-requires returns)

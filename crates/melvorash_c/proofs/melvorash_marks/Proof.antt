@@ -17,7 +17,7 @@ same-length c = search needs
 returns : tie.Need-returns
 returns c =
     let called = c .before .before .before .drawing-order .ensures in
-    exports _ (c .of-marks .ensures) (called .told) (marks-reads _ _ _) called
+    exports _ _ _ (c .of-marks .ensures) (called .told) (marks-reads _ _ _) called
 
 pub melvorash-marks-spec : {M : Type 1} → statement M
 melvorash-marks-spec =

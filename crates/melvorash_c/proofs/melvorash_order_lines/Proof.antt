@@ -1,6 +1,6 @@
--- `melvorash_c::melvorash_order_lines` meets its contract: the job's own answer, in three numbers, and the order as the job leaves it.
+-- `melvorash_c::melvorash_order_lines` meets its contract: the job's own answer, in four numbers, and the order as the job leaves it.
 -- Assumes nothing.
-use Rattle.melvorash_c.proofs.BoundaryLaws.{lines-reads, exports}
+use Rattle.melvorash_c.proofs.BoundaryLaws.{lines-exports}
 use borrow.Author.Needs.{needs}
 use Rattle.melvorash_c.proofs.melvorash_order_lines.Statement.{statement}
 use Rattle.melvorash_c.proofs.melvorash_order_lines.Tie as tie
@@ -15,9 +15,7 @@ same-length : tie.Need-same-length
 same-length c = search needs
 
 returns : tie.Need-returns
-returns c =
-    let called = c .before .before .before .order-lines .ensures in
-    exports _ (c .of-order .ensures) (called .leaves .told) (lines-reads _ _ _ _ _) called
+returns c = lines-exports _ _ _ _ _ (c .of-order .ensures) (c .before .before .before .order-lines .ensures)
 
 pub melvorash-order-lines-spec : {M : Type 1} → statement M
 melvorash-order-lines-spec =

@@ -17,7 +17,7 @@ same-length c = search needs
 returns : tie.Need-returns
 returns c =
     let called = c .before .before .before .resolve-levels .ensures in
-    exports _ (c .of-levels .ensures) (called .told) (levels-reads _ _ _ _) called
+    exports _ _ _ (c .of-levels .ensures) (called .told) (levels-reads _ _ _ _) called
 
 pub melvorash-resolve-spec : {M : Type 1} → statement M
 melvorash-resolve-spec =
