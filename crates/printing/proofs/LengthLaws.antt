@@ -16,7 +16,7 @@ use Rattle.rules.proofs.SoundLaws.{test-fails, levels-sound}
 use Rattle.rules.proofs.BaseTheorem.{baseOf-small}
 use Rattle.resolve.proofs.WholeLaws.{length-resolved}
 use Rattle.resolve.proofs.BoundLaws.{resolved-accepted}
-use Rattle.line.proofs.LineLaws.{length-lineOrder}
+use Rattle.line.proofs.LineLaws.{order-within}
 use Rattle.pairwise.proofs.Theorem.{demand3}
 use Rattle.words.specs.Words.{requestOf, fallbackOf, classesOf}
 use Rattle.writing.specs.Text.{baseRow, levelsRow, orderRow}
@@ -52,7 +52,7 @@ rows-short base cs low h =
     let fine : firstBadLevel 0 cs levels ≡ sound = ap (firstBadLevel 0 cs) (sym (append-nil levels)) ∙ resolved-accepted base cs [] low in
     let shown = demand3 base cs levels 0 (length cs) (omega arith) (omega arith) (omega arith) in
     let near : (i : ℕ) → i < length order → getD order i 0 < 10000 = λ i g. let b : getD order i 0 < length cs = shown .only i g .before in omega arith in
-    let count : length order ≤ length cs = omega (arith, length-lineOrder base cs levels 0 (length cs) (omega arith)) in
+    let count : length order ≤ length cs = omega (arith, order-within base cs levels 0 (length cs) (omega arith)) in
     let rows = length-append (baseRow base ++ levelsRow levels) (orderRow order) in
     let first = length-append (baseRow base) (levelsRow levels) in
     omega (arith, rows, first, base-row-size base low, levels-row-size cs levels long fine, order-row-size order near)

@@ -14,7 +14,7 @@ use Rattle.rules.specs.Resolve.{resolvedLevels}
 use Rattle.laws.specs.Parts.{part, over}
 use Rattle.rules.specs.Line.{lineLevels, lineOrder}
 use Rattle.rules.specs.Refusals.{Check, sound, refuse, _andThen_, checkSome, checkLength, checkClasses, checkRequest, checkLevelRoom, checkLine, checkOrderRoom, checksOfLevels, checksOfOrder, checksOfLine, longestParagraph}
-use Rattle.rules.specs.Jobs.{Answer, accepted, refused, answered, levelsAnswer, resolveBuffer, lineAnswer, lineBuffer}
+use Rattle.rules.specs.Jobs.{Answer, accepted, refused, answered, levelsAnswer, resolveBuffer, Placing, linePlacing, lineAnswer, lineBuffer}
 use Rattle.laws.proofs.Lists.{le-or-lt}
 use Rattle.rules.proofs.SoundLaws.{then-sound, classes-length, classes-some, levels-sound}
 use Rattle.resolve.proofs.WholeLaws.{length-resolved}
@@ -124,8 +124,8 @@ module _ (text before : List ℕ) {after : List ℕ} {count : ℕ} (n : count �
   front-is = rw (n, w) (take-append-seam text (drop (length text) before))
 
 -- ---- what Order answers where its checks find nothing wrong
-module _ {cs levels : List ℕ} {base to : ℕ} {order : List ℕ} {answer : Answer ℕ} {after : List ℕ} (s : checksOfLine cs levels base 0 to (length order) ≡ sound) (o : OrdersLine cs levels base 0 to order answer after) where
-  told : answer ≡ accepted (length (lineOrder base cs levels 0 to))
+module _ {cs levels : List ℕ} {base to : ℕ} {order : List ℕ} {answer : Answer Placing} {after : List ℕ} (s : checksOfLine cs levels base 0 to (length order) ≡ sound) (o : OrdersLine cs levels base 0 to order answer after) where
+  told : answer ≡ accepted (linePlacing cs levels base 0 to)
   unfolding lineAnswer
   told = o .leaves .told ∙ rw s
 
@@ -136,12 +136,12 @@ module _ {cs levels : List ℕ} {base to : ℕ} {order : List ℕ} {answer : Ans
   pub order-not-refused : {number place : ℕ} → answer ≡ refused number place → ⊥
   order-not-refused e = never-both (sym told ∙ e)
 
-  module _ {count : ℕ} (a : answer ≡ accepted count) where
-    counted : count ≡ length (lineOrder base cs levels 0 to)
-    counted = accepted-value (sym a ∙ told)
+  module _ {placing : Placing} (a : answer ≡ accepted placing) where
+    counted : placing .placed ≡ length (lineOrder base cs levels 0 to)
+    counted = ap (λ (p : Placing). p .placed) (accepted-value (sym a ∙ told))
 
-    pub order-within : count ≤ length after
+    pub order-within : placing .placed ≤ length after
     order-within = front-within (lineOrder base cs levels 0 to) order counted left
 
-    pub order-front : take count after ≡ lineOrder base cs levels 0 to
+    pub order-front : take (placing .placed) after ≡ lineOrder base cs levels 0 to
     order-front = front-is (lineOrder base cs levels 0 to) order counted left
