@@ -8,7 +8,7 @@ use mathlib.Core.Bool.{Bool, true, false}
 use mathlib.Core.List.{List, [], _∷_, _++_, map, reverseAux}
 use lib.ListN.{length, getD, drop, drop-of-length-le}
 use Rattle.laws.specs.Sums.{sumOf}
-use Rattle.laws.proofs.Every.{Every, every-one}
+use Rattle.laws.proofs.Every.{Every}
 use Rattle.laws.proofs.Lists.{drop-next}
 
 -- what a test counts for

@@ -155,7 +155,7 @@ module _ (base : ℕ) (cs ls ends order₀ order : List ℕ) (from count reverse
         omega arith
 
     -- and so many of them are written, which leaves room for the lines to come
-    pub count-next : (base′ r : ℕ) → r ≡ length (lineOrder base′ cs ls from to) → count + r ≤ to
+    count-next : (base′ r : ℕ) → r ≡ length (lineOrder base′ cs ls from to) → count + r ≤ to
     count-next base′ r n =
         let w = next-line in
         let b : count ≤ from = l .behind in
@@ -163,10 +163,10 @@ module _ (base : ℕ) (cs ls ends order₀ order : List ℕ) (from count reverse
         omega arith
 
     -- and few enough are reversed that their number fits
-    pub reversed-few : (base′ : ℕ) {entry exit : List ℕ} {placed : Placed} → Ordered (lineOrder base′ cs ls from to) (lineReversed base′ cs ls from to) entry placed exit → reversed + placed .reversed ≤ 255 * to
-    reversed-few base′ o =
-        let n : count + length (lineOrder base′ cs ls from to) ≤ to = count-next base′ (length (lineOrder base′ cs ls from to)) refl in
-        omega (arith, l .few, o .few, o .reversed)
+    pub sums-fit : (base′ : ℕ) {entry exit : List ℕ} {placed : Placed} → Ordered (lineOrder base′ cs ls from to) (lineReversed base′ cs ls from to) entry placed exit → (count + placed .count ≤ to) × (reversed ≤ 255 * to) × (reversed + placed .reversed ≤ 255 * to)
+    sums-fit base′ {placed = placed} o =
+        let n : count + placed .count ≤ to = count-next base′ (placed .count) (o .counted) in
+        (n, omega (arith, l .few), omega (arith, l .few, o .few, o .reversed, o .counted))
 
     pub lines-next : (placed : Placed) (part′ order′ : List ℕ) → length cs ≤ length order₀ → Ordered (lineOrder base cs ls from to) (lineReversed base cs ls from to) (take (length order - count) (drop count order)) placed part′ → order′ ≡ putMid count (length order - count) order part′ → Lines base cs ls ends order₀ order′ to (count + placed .count) (reversed + placed .reversed) (i + 1)
     lines-next placed part′ order′ room o e =

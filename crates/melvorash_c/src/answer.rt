@@ -55,16 +55,15 @@ fn of_refusal(refusal: Refusal) -> Answer
     }
 }
 
-// An order that is refused.
+// A refused order has the same numbers, and nothing reversed.
 fn of_refused_order(refusal: Refusal) -> OrderAnswer
     ensures { λ r. ⌜ r ≡ orderNumbersOf (refused (refusal .number) (refusal .place)) ⌝ }
 {
-    let number = refusal.number;
-    let place = refusal.place;
+    let numbers = of_refusal(refusal);
     OrderAnswer {
-        refusal: number as usize,
-        place,
-        value: 0,
+        refusal: numbers.refusal,
+        place: numbers.place,
+        value: numbers.value,
         reversed: 0,
     }
 }

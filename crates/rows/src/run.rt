@@ -1,6 +1,7 @@
-// The jobs of a row, called on what it lends as they are called from C, so that every answer is three numbers.
+// The jobs of a row, called on what it lends as they are called from C, so that every answer is numbers: an order's four.
 use crate::tell;
 use melvorash_c::Answer;
+use melvorash_c::OrderAnswer;
 use words::Asked;
 
 // Each letter is a job. An order goes by the base that was answered before it, or else by the row's own.
@@ -29,7 +30,31 @@ fn called(
     asked: Asked,
     base: u8,
     ends: &[u16],
-) -> Answer {
+) -> OrderAnswer {
+    if job == b'O' {
+        return line(classes, levels, order, base, ends);
+    }
+    if job == b'T' {
+        return line(classes, levels, order, base, ends);
+    }
+    if job == b'A' {
+        return melvorash_c::melvorash_order_lines(classes, levels, base, ends, order);
+    }
+    with_none_reversed(other(job, classes, levels, order, asked))
+}
+
+// An answer of three numbers beside those of four.
+fn with_none_reversed(answer: Answer) -> OrderAnswer {
+    OrderAnswer {
+        refusal: answer.refusal,
+        place: answer.place,
+        value: answer.value,
+        reversed: 0,
+    }
+}
+
+// A job that orders no line.
+fn other(job: u8, classes: &[u8], levels: &mut [u8], order: &mut [u16], asked: Asked) -> Answer {
     if job == b'B' {
         return melvorash_c::melvorash_base(classes);
     }
@@ -45,27 +70,11 @@ fn called(
     if job == b'Q' {
         return melvorash_c::melvorash_resolve(classes, asked.request, asked.fallback, levels);
     }
-    ordered(job, classes, levels, order, base, ends)
+    melvorash_c::melvorash_marks(classes, levels, order)
 }
 
 // Of two numbers, a line's beginning and its end.
-fn ordered(
-    job: u8,
-    classes: &[u8],
-    levels: &[u8],
-    order: &mut [u16],
-    base: u8,
-    ends: &[u16],
-) -> Answer {
-    if job == b'M' {
-        return melvorash_c::melvorash_marks(classes, levels, order);
-    }
-    if job == b'D' {
-        return melvorash_c::melvorash_marks(classes, levels, order);
-    }
-    if job == b'A' {
-        return melvorash_c::melvorash_order_lines(classes, levels, base, ends, order);
-    }
+fn line(classes: &[u8], levels: &[u8], order: &mut [u16], base: u8, ends: &[u16]) -> OrderAnswer {
     let from = at(ends, 0) as usize;
     let to = at(ends, 1) as usize;
     melvorash_c::melvorash_order_line(classes, levels, base, from, to, order)

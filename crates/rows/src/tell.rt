@@ -1,7 +1,7 @@
 // Tells what a job answered and what it left in the lent buffers.
 use crate::lent;
 use crate::say;
-use melvorash_c::Answer;
+use melvorash_c::OrderAnswer;
 
 // The base that an order is given where the levels were refused, for it to refuse too.
 const NO_BASE: u8 = 255;
@@ -10,7 +10,13 @@ const NO_BASE: u8 = 255;
 const NO_DASH: u16 = 256;
 
 // Answers the base for an order that follows.
-pub(crate) fn answer(job: u8, answer: Answer, classes: &[u8], levels: &[u8], order: &[u16]) -> u8 {
+pub(crate) fn answer(
+    job: u8,
+    answer: OrderAnswer,
+    classes: &[u8],
+    levels: &[u8],
+    order: &[u16],
+) -> u8 {
     if job == b'M' {
         listed(classes, levels);
     }
@@ -18,11 +24,20 @@ pub(crate) fn answer(job: u8, answer: Answer, classes: &[u8], levels: &[u8], ord
         say::text(b" refused");
         say::number(answer.refusal);
         say::number(answer.place);
+        stray(answer.value);
+        stray(answer.reversed);
         left(job, classes, levels, order);
         return NO_BASE;
     }
-    accepted(job, answer.value, classes, levels, order);
+    accepted(job, answer.value, answer.reversed, classes, levels, order);
     (answer.value % 256) as u8
+}
+
+// A refusal has no other number.
+fn stray(number: usize) {
+    if number > 0 {
+        say::named(b", with", number);
+    }
 }
 
 fn listed(classes: &[u8], flags: &[u8]) {
@@ -57,7 +72,7 @@ fn left(job: u8, classes: &[u8], levels: &[u8], order: &[u16]) {
     }
 }
 
-fn accepted(job: u8, value: usize, classes: &[u8], levels: &[u8], order: &[u16]) {
+fn accepted(job: u8, value: usize, reversed: usize, classes: &[u8], levels: &[u8], order: &[u16]) {
     if job == b'B' {
         return say::named(b" base", value);
     }
@@ -71,7 +86,19 @@ fn accepted(job: u8, value: usize, classes: &[u8], levels: &[u8], order: &[u16])
     if job == b'R' {
         return based(value, levels, classes.len());
     }
+    if job == b'Q' {
+        return;
+    }
+    if job == b'M' {
+        say::order(order, 0, value);
+        return lent::places(b", the rest", order, value);
+    }
+    if job == b'D' {
+        say::named(b" drawn", value);
+        return lent::places(b", the rest", order, value);
+    }
     placed(job, value, order);
+    say::named(b", reversed", reversed);
 }
 
 fn based(base: usize, levels: &[u8], n: usize) {
@@ -87,24 +114,12 @@ fn part(part: &[u8]) {
     say::bytes(part, 4, NO_DASH);
 }
 
+// The positions of an order, or how many there are and the last of the most.
 fn placed(job: u8, count: usize, order: &[u16]) {
-    if job == b'O' {
-        return say::order(order, 0, count);
-    }
-    if job == b'A' {
-        return say::order(order, 0, count);
-    }
     if job == b'T' {
         say::named(b" ordered", count);
         say::text(b", the last place and the one after:");
         return say::order(order, classes::LONGEST - 1, classes::LONGEST + 1);
     }
-    if job == b'M' {
-        say::order(order, 0, count);
-        return lent::places(b", the rest", order, count);
-    }
-    if job == b'D' {
-        say::named(b" drawn", count);
-        return lent::places(b", the rest", order, count);
-    }
+    say::order(order, 0, count);
 }

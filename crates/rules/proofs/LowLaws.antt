@@ -1,9 +1,9 @@
 -- How high the levels of a line are: what Order's checks let pass is at most the highest resolved level on every kept
 -- position, and the line's reset puts nothing higher. Assumes nothing.
-use Prim.Native.Nat.{ℕ, zero, suc, _+_, _*_, _-_, _≤_, _<_}
+use Prim.Native.Nat.{ℕ, zero, suc, _*_, _-_, _≤_}
 use native.Mathlib.Nat.{mul-add}
 use native.Mathlib.Omega.{arith}
-use mathlib.Core.Path.{_≡_, refl, sym, ap, subst, _∙_}
+use mathlib.Core.Path.{_≡_}
 use mathlib.Core.Bool.{Bool, true, false, _||_, _&&_}
 use mathlib.Core.List.{List, [], _∷_}
 use borrow.Author.Tests.{ltb-false}
@@ -15,7 +15,7 @@ use Rattle.laws.proofs.Every.{Every, AtMost}
 use Rattle.laws.proofs.Passes.{by-test}
 use Rattle.rules.specs.Classes.{isRemoved, isSeparator, isBlank}
 use Rattle.rules.specs.Explicit.{kept}
-use Rattle.rules.specs.Line.{Item, blankAhead, resetLevel, L1, items, levelsOf, highest, lineLevels, lineKept, lineOrder, allOrders}
+use Rattle.rules.specs.Line.{blankAhead, resetLevel, L1, items, levelsOf, highest, lineLevels, lineKept, lineOrder, allOrders}
 use Rattle.rules.specs.Refusals.{highestResolved, sound, refuse, isBadLevel, firstBadLevel}
 use Rattle.rules.specs.Reversals.{L2reverses, lineReversed, allReversed}
 use Rattle.rules.proofs.LineLaws.{length-lineOrder}

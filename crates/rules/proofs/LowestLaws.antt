@@ -1,6 +1,6 @@
 -- The highest level of some items and their lowest odd one, by their equations; how high and how low they are.
 -- Assumes nothing.
-use Prim.Native.Nat.{ℕ, suc, _≤_, _%_, min, max}
+use Prim.Native.Nat.{ℕ, _≤_, _%_, min, max}
 use native.Mathlib.Omega.{arith}
 use mathlib.Core.Bool.{true, false}
 use mathlib.Core.Path.{_≡_, refl, _∙_}

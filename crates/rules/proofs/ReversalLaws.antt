@@ -3,16 +3,13 @@
 -- Assumes nothing.
 use Prim.Native.Nat.{ℕ, zero, suc, _+_, _-_, _*_, _≤_, _<_, min}
 use native.Mathlib.Omega.{arith}
-use mathlib.Core.Path.{_≡_, refl, sym, ap, _∙_}
-use mathlib.Core.Bool.{true, false}
+use mathlib.Core.Path.{_≡_, refl, sym, _∙_}
 use mathlib.Core.List.{List, [], _∷_}
 use lib.Dec.{leb}
-use lib.ListN.{length, length-map}
+use lib.ListN.{length}
 use borrow.Author.Tests.{le-leb, lt-leb}
-use Rattle.laws.specs.Any.{anyOf}
-use Rattle.laws.specs.Choice.{isOdd}
 use Rattle.laws.specs.Sums.{sumOf}
-use Rattle.laws.proofs.Every.{Every, every-one, every-then}
+use Rattle.laws.proofs.Every.{every-one, every-then}
 use Rattle.laws.proofs.Lists.{by-order}
 use Rattle.laws.proofs.Passes.{by-test}
 use Rattle.laws.proofs.SumLaws.{one, sum-same, sum-both, sum-none, sum-most, sum-map}

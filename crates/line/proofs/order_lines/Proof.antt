@@ -4,7 +4,7 @@ use native.Mathlib.Omega.{arith}
 use mathlib.Core.Path.{refl}
 use Prim.Native.Nat.{_-_}
 use lib.ListN.{length}
-use Rattle.line.proofs.LineLaws.{Lines, lines-begun, next-line, lent-room, count-next, reversed-few, lines-next, lines-ended}
+use Rattle.line.proofs.LineLaws.{Lines, lines-begun, next-line, lent-room, sums-fit, lines-next, lines-ended}
 use borrow.Author.Needs.{needs}
 use Rattle.line.proofs.order_lines.Statement.{statement}
 use Rattle.line.proofs.order_lines.Tie as tie
@@ -59,8 +59,8 @@ add-count c =
     let start = at-loop .before .before .before .before .before in
     let args = start .args in
     let w = next-line (args .base) (args .classes .now) (args .levels .now) (args .ends .now) (args .order .now) _ _ _ _ _ (at-loop .loop .inv) (ended .before .loop-test .taken) _ (ended .end-at .ensures) in
-    let n = count-next (args .base) (args .classes .now) (args .levels .now) (args .ends .now) (args .order .now) _ _ _ _ _ (at-loop .loop .inv) (ended .before .loop-test .taken) _ (ended .end-at .ensures) _ _ (c .before .before .before .order-line .ensures .counted) in
-    omega arith
+    let n = sums-fit (args .base) (args .classes .now) (args .levels .now) (args .ends .now) (args .order .now) _ _ _ _ _ (at-loop .loop .inv) (ended .before .loop-test .taken) _ (ended .end-at .ensures) _ (c .before .before .before .order-line .ensures) in
+    omega (arith, n .0, n .1, n .2)
 
 add-reversed : tie.Need-add-reversed Inv-loop μ-loop
 add-reversed c =
@@ -69,8 +69,8 @@ add-reversed c =
     let start = at-loop .before .before .before .before .before in
     let args = start .args in
     let w = next-line (args .base) (args .classes .now) (args .levels .now) (args .ends .now) (args .order .now) _ _ _ _ _ (at-loop .loop .inv) (ended .before .loop-test .taken) _ (ended .end-at .ensures) in
-    let n = reversed-few (args .base) (args .classes .now) (args .levels .now) (args .ends .now) (args .order .now) _ _ _ _ _ (at-loop .loop .inv) (ended .before .loop-test .taken) _ (ended .end-at .ensures) _ (c .before .before .before .before .order-line .ensures) in
-    omega arith
+    let n = sums-fit (args .base) (args .classes .now) (args .levels .now) (args .ends .now) (args .order .now) _ _ _ _ _ (at-loop .loop .inv) (ended .before .loop-test .taken) _ (ended .end-at .ensures) _ (c .before .before .before .before .order-line .ensures) in
+    omega (arith, n .0, n .1, n .2)
 
 add-i : tie.Need-add-i Inv-loop μ-loop
 add-i c = search needs
