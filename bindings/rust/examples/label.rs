@@ -18,8 +18,8 @@ fn shown(label: &[char]) -> Result<String, Refusal> {
     let mut levels = vec![0; label.len()];
     let mut order = vec![0; label.len()];
     let base = melvorash::resolve_levels(&classes, melvorash::BY_TEXT, 0, &mut levels)?;
-    let placed = melvorash::order_line(&classes, &levels, base, 0, label.len(), &mut order)?;
-    Ok(order[..placed].iter().map(|&position| label[usize::from(position)]).collect())
+    let line = melvorash::order_line(&classes, &levels, base, 0, label.len(), &mut order)?;
+    Ok(order[..line.placed].iter().map(|&position| label[usize::from(position)]).collect())
 }
 
 fn main() -> Result<(), Refusal> {

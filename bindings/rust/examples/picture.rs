@@ -1,5 +1,6 @@
 //! Draws docs/label.svg: one label's levels, the passes that reverse it, and the law for two of its marks.
-//! Levels and order come from the library. The passes are drawn step by step, and the last must be that order.
+//! Levels and order come from the library. The passes are drawn step by step: the last must be that order, and all
+//! together must reverse as many positions as the library says.
 use melvorash::Class::{self, EN, ES, L, R, WS};
 use std::fmt::Write;
 
@@ -69,11 +70,14 @@ impl Picture {
     }
 }
 
-/// One pass of rule L2: every longest stretch at the level or above is reversed.
-fn pass(order: &mut [u16], levels: &[u8], level: u8) {
+/// One pass of rule L2: every longest stretch at the level or above is reversed. How many positions that are.
+fn pass(order: &mut [u16], levels: &[u8], level: u8) -> usize {
+    let mut reversed = 0;
     for stretch in order.split_mut(|&position| levels[position as usize] < level) {
         stretch.reverse();
+        reversed += stretch.len();
     }
+    reversed
 }
 
 fn main() {
@@ -82,22 +86,23 @@ fn main() {
     let base =
         melvorash::resolve_levels(&classes, melvorash::BY_TEXT, 0, &mut levels).expect("the label is sound");
     let mut order = [0; 10];
-    let count = melvorash::order_line(&classes, &levels, base, 0, 10, &mut order).expect("so is its line");
-    assert_eq!(count, 10, "nothing is removed");
+    let line = melvorash::order_line(&classes, &levels, base, 0, 10, &mut order).expect("so is its line");
+    assert_eq!(line.placed, 10, "nothing is removed");
 
     let mut picture = Picture { levels, svg: String::new(), y: 12 };
-    let mut drawn: Vec<u16> = (0..10).collect();
+    let (mut drawn, mut reversed) = ((0..10).collect::<Vec<u16>>(), 0);
     picture.row("in memory", &drawn);
     picture.words("class", |at| format!("{:?}", CLASSES[at]));
     picture.words("level", |at| levels[at].to_string());
     picture.y += 20;
     let lowest_odd = levels.iter().copied().filter(|level| level % 2 == 1).min().unwrap_or(u8::MAX);
     for level in (lowest_odd..=levels.iter().copied().max().unwrap_or(0)).rev() {
-        pass(&mut drawn, &levels, level);
+        reversed += pass(&mut drawn, &levels, level);
         let last = if level == lowest_odd { ": displayed" } else { "" };
         picture.row(&format!("pass at {level}{last}"), &drawn);
     }
     assert_eq!(drawn, order, "the last pass gives the library's order");
+    assert_eq!(reversed, line.reversed, "the passes reverse so many positions");
     picture.y += 16;
     picture.row("any two marks", &(0..10).collect::<Vec<u16>>());
     picture.pair(3, 6, &order);

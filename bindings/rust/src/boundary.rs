@@ -10,6 +10,15 @@ pub(crate) struct Answer {
     pub(crate) value: usize,
 }
 
+/// The answer of an order: as the other, with one number more.
+#[repr(C)]
+pub(crate) struct OrderAnswer {
+    pub(crate) refusal: usize,
+    pub(crate) place: usize,
+    pub(crate) value: usize,
+    pub(crate) reversed: usize,
+}
+
 /// What `base` answers where the paragraph has no strong class.
 pub(crate) const NONE_FOUND: u8 = 2;
 
@@ -19,8 +28,8 @@ extern "C" {
     fn melvorash_base(classes: *const u8, class_count: usize) -> Answer;
     fn melvorash_explicit(classes: *const u8, class_count: usize, request: u8, fallback: u8, levels: *mut u8, level_count: usize) -> Answer;
     fn melvorash_resolve(classes: *const u8, class_count: usize, request: u8, fallback: u8, levels: *mut u8, level_count: usize) -> Answer;
-    fn melvorash_order_line(classes: *const u8, class_count: usize, levels: *const u8, level_count: usize, base: u8, from: usize, to: usize, order: *mut u16, order_count: usize) -> Answer;
-    fn melvorash_order_lines(classes: *const u8, class_count: usize, levels: *const u8, level_count: usize, base: u8, ends: *const u16, end_count: usize, order: *mut u16, order_count: usize) -> Answer;
+    fn melvorash_order_line(classes: *const u8, class_count: usize, levels: *const u8, level_count: usize, base: u8, from: usize, to: usize, order: *mut u16, order_count: usize) -> OrderAnswer;
+    fn melvorash_order_lines(classes: *const u8, class_count: usize, levels: *const u8, level_count: usize, base: u8, ends: *const u16, end_count: usize, order: *mut u16, order_count: usize) -> OrderAnswer;
     fn melvorash_marks(classes: *const u8, class_count: usize, flags: *const u8, flag_count: usize, order: *mut u16, order_count: usize) -> Answer;
 }
 
@@ -65,7 +74,7 @@ pub(crate) fn order_line(
     from: usize,
     to: usize,
     order: &mut [u16],
-) -> Answer {
+) -> OrderAnswer {
     unsafe {
         melvorash_order_line(
             classes.as_ptr(),
@@ -87,7 +96,7 @@ pub(crate) fn order_lines(
     base: u8,
     ends: &[u16],
     order: &mut [u16],
-) -> Answer {
+) -> OrderAnswer {
     unsafe {
         melvorash_order_lines(
             classes.as_ptr(),

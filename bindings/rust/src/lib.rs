@@ -10,9 +10,9 @@
 //! let classes = [R, WS, EN, ET].map(melvorash::Class::number);
 //! let (mut levels, mut order) = ([0; 4], [0; 4]);
 //! let base = melvorash::resolve_levels(&classes, melvorash::BY_TEXT, 0, &mut levels)?;
-//! let placed = melvorash::order_line(&classes, &levels, base, 0, 4, &mut order)?;
+//! let line = melvorash::order_line(&classes, &levels, base, 0, 4, &mut order)?;
 //! assert_eq!((base, levels), (1, [1, 1, 2, 2]));
-//! assert_eq!(order[..placed], [2, 3, 1, 0]);
+//! assert_eq!(order[..line.placed], [2, 3, 1, 0]);
 //! # Ok::<(), melvorash::Refusal>(())
 //! ```
 //!
@@ -22,12 +22,14 @@
 #[allow(unsafe_code)]
 mod boundary;
 mod class;
+mod ordered;
 mod refusal;
 
 pub use class::Class;
+pub use ordered::Ordered;
 pub use refusal::Refusal;
 
-use refusal::outcome;
+use refusal::{ordered, outcome};
 
 /// The request for base level 0.
 pub const LEFT_TO_RIGHT: u8 = 0;
@@ -93,7 +95,20 @@ pub fn resolve_levels(classes: &[u8], request: u8, fallback: u8, levels: &mut [u
 }
 
 /// Writes the kept positions of the line `from..to` from left to right, and nothing after them. Takes the
-/// levels and the base level that [`resolve_levels`] gave. Answers how many positions.
+/// levels and the base level that [`resolve_levels`] gave. Answers how many positions were written, and how many
+/// were reversed.
+///
+/// ```
+/// use melvorash::Class::{EN, R};
+///
+/// // the pass at level 2 reverses the number's two digits, and the pass at level 1 all three positions
+/// let classes = [R, EN, EN].map(melvorash::Class::number);
+/// let mut order = [0; 3];
+/// let line = melvorash::order_line(&classes, &[1, 2, 2], 1, 0, 3, &mut order)?;
+/// assert_eq!((line.placed, order), (3, [1, 2, 0]));
+/// assert_eq!(line.reversed, 5);
+/// # Ok::<(), melvorash::Refusal>(())
+/// ```
 pub fn order_line(
     classes: &[u8],
     levels: &[u8],
@@ -101,20 +116,20 @@ pub fn order_line(
     from: usize,
     to: usize,
     order: &mut [u16],
-) -> Result<usize, Refusal> {
-    outcome(boundary::order_line(classes, levels, base, from, to, order))
+) -> Result<Ordered, Refusal> {
+    ordered(boundary::order_line(classes, levels, base, from, to, order))
 }
 
 /// The same for all lines: `ends` holds the position after each line's last, the last of them the
-/// paragraph's length. Each line's order follows the one before.
+/// paragraph's length. Each line's order follows the one before, and each of the two numbers is the lines' sum.
 pub fn order_lines(
     classes: &[u8],
     levels: &[u8],
     base: u8,
     ends: &[u16],
     order: &mut [u16],
-) -> Result<usize, Refusal> {
-    outcome(boundary::order_lines(classes, levels, base, ends, order))
+) -> Result<Ordered, Refusal> {
+    ordered(boundary::order_lines(classes, levels, base, ends, order))
 }
 
 /// Writes the positions of decomposed characters in the order in which their marks are drawn, from the inside

@@ -1,4 +1,5 @@
-use crate::boundary::Answer;
+use crate::boundary::{Answer, OrderAnswer};
+use crate::Ordered;
 use std::fmt;
 
 /// Why a call was refused. Then no lent buffer has changed. A position is held where one is at fault: the
@@ -84,9 +85,19 @@ impl std::error::Error for Refusal {}
 
 /// The value of an accepted call, or the refusal.
 pub(crate) fn outcome(answer: Answer) -> Result<usize, Refusal> {
-    let at = answer.place;
-    match answer.refusal {
-        0 => Ok(answer.value),
+    told(answer.refusal, answer.place, answer.value)
+}
+
+/// The same for an order, which has two values.
+pub(crate) fn ordered(answer: OrderAnswer) -> Result<Ordered, Refusal> {
+    let values = Ordered { placed: answer.value, reversed: answer.reversed };
+    told(answer.refusal, answer.place, values)
+}
+
+/// The values where the number is 0, and else the refusal that it stands for.
+fn told<T>(number: usize, at: usize, values: T) -> Result<T, Refusal> {
+    match number {
+        0 => Ok(values),
         1 => Err(Refusal::NoClasses),
         2 => Err(Refusal::UnknownClass(at)),
         3 => Err(Refusal::TooLong),

@@ -1,7 +1,7 @@
 //! Every function on good and bad input: the answer, and every place of every buffer that was lent.
 use melvorash::Class::{self, *};
 use melvorash::Refusal::{self, *};
-use melvorash::{BY_TEXT, LONGEST, REMOVED};
+use melvorash::{Ordered, BY_TEXT, LONGEST, REMOVED};
 
 const CLASSES: [Class; 20] =
     [L, LRE, LRO, R, AL, RLE, RLO, PDF, EN, ES, ET, AN, CS, NSM, BN, B, S, WS, ON, CR];
@@ -52,16 +52,19 @@ struct Lent {
     room: usize,
 }
 
+/// What an accepted call answers: its value, and for an order how many positions were reversed.
+type Values = (usize, Option<usize>);
+
 /// What a call answered and left in the two buffers that a job may fill.
 #[derive(Debug, PartialEq)]
 struct Outcome {
-    answer: Result<usize, Refusal>,
+    answer: Result<Values, Refusal>,
     levels: Vec<u8>,
     order: Vec<u16>,
 }
 
 /// An outcome in which a buffer begins with what was written and is untouched after that.
-fn outcome(room: usize, answer: Result<usize, Refusal>, levels: &[u8], order: &[u16]) -> Outcome {
+fn outcome(room: usize, answer: Result<Values, Refusal>, levels: &[u8], order: &[u16]) -> Outcome {
     let (mut all_levels, mut all_order) = (levels.to_vec(), order.to_vec());
     all_levels.resize(room + BEYOND, UNTOUCHED);
     all_order.resize(room + BEYOND, u16::from(UNTOUCHED));
@@ -70,27 +73,36 @@ fn outcome(room: usize, answer: Result<usize, Refusal>, levels: &[u8], order: &[
 
 fn run(job: Job, given: &Lent) -> Outcome {
     let lent = given.clone();
-    let mut left = outcome(lent.room, Ok(0), &[], &[]);
+    let mut left = outcome(lent.room, Ok((0, None)), &[], &[]);
     let levels = &mut left.levels[..lent.room];
     let order = &mut left.order[..lent.room];
-    let wide = |level: u8| usize::from(level);
+    let value = |value: usize| (value, None);
+    let wide = |level: u8| value(level.into());
+    let both = |ordered: Ordered| (ordered.placed, Some(ordered.reversed));
     let Lent { classes, base, fallback, levels: resolved, from, to, ends, flags, .. } = &lent;
     left.answer = match job {
-        Cut => melvorash::cut(classes),
-        Base => melvorash::base(classes).map(|found| found.map_or(NONE, wide)),
+        Cut => melvorash::cut(classes).map(value),
+        Base => melvorash::base(classes).map(|found| found.map_or(value(NONE), wide)),
         Explicit => melvorash::explicit_levels(classes, *base, *fallback, levels).map(wide),
         Resolve => melvorash::resolve_levels(classes, *base, *fallback, levels).map(wide),
-        OrderLine => melvorash::order_line(classes, resolved, *base, *from, *to, order),
-        OrderLines => melvorash::order_lines(classes, resolved, *base, ends, order),
-        Marks => melvorash::marks(classes, flags, order),
+        OrderLine => melvorash::order_line(classes, resolved, *base, *from, *to, order).map(both),
+        OrderLines => melvorash::order_lines(classes, resolved, *base, ends, order).map(both),
+        Marks => melvorash::marks(classes, flags, order).map(value),
     };
     assert_eq!(&lent, given, "{job:?} wrote to what it only reads");
     left
 }
 
 fn accepts(job: Job, lent: &Lent, value: usize, levels: &[u8], order: &[u16]) {
-    let wanted = outcome(lent.room, Ok(value), levels, order);
+    let wanted = outcome(lent.room, Ok((value, None)), levels, order);
     assert_eq!(run(job, lent), wanted, "{job:?} on {lent:?}");
+}
+
+fn orders(jobs: &[Job], lent: &Lent, order: &[u16], reversed: usize) {
+    for &job in jobs {
+        let wanted = outcome(lent.room, Ok((order.len(), Some(reversed))), &[], order);
+        assert_eq!(run(job, lent), wanted, "{job:?} on {lent:?}");
+    }
 }
 
 fn refuses(jobs: &[Job], lent: &Lent, refusal: Refusal) {
@@ -116,54 +128,54 @@ fn classes_have_their_numbers() {
     }
 }
 
-/// Document 01's table: classes, request, base used, resolved levels, the order of one line.
-type Row = (&'static str, u8, u8, &'static [u8], &'static [u16]);
+/// Document 01's table: classes, request, base used, resolved levels, the order of one line; and how many
+/// positions that line reverses, which the table does not have.
+type Row = (&'static str, u8, u8, &'static [u8], &'static [u16], usize);
 
 const ROWS: &[Row] = &[
-    ("L", BY_TEXT, 0, &[0], &[0]),
-    ("AL EN", BY_TEXT, 1, &[1, 2], &[1, 0]),
-    ("L WS EN", BY_TEXT, 0, &[0, 0, 0], &[0, 1, 2]),
-    ("EN CS EN", 1, 1, &[2, 2, 2], &[0, 1, 2]),
-    ("EN CS CS EN", 1, 1, &[2, 1, 1, 2], &[3, 2, 1, 0]),
-    ("AN ET EN", 1, 1, &[2, 2, 2], &[0, 1, 2]),
-    ("R WS L", 0, 0, &[1, 0, 0], &[0, 1, 2]),
-    ("R WS L", 1, 1, &[1, 1, 2], &[2, 1, 0]),
-    ("RLE L PDF R", 0, 0, &[X, 2, X, 1], &[3, 1]),
-    ("EN BN CS EN", 1, 1, &[2, X, 2, 2], &[0, 2, 3]),
-    ("R S R", 0, 0, &[1, 1, 1], &[0, 1, 2]),
-    ("PDF L", 0, 0, &[X, 0], &[1]),
-    ("NSM", 1, 1, &[1], &[0]),
-    ("B", BY_TEXT, 0, &[0], &[0]),
-    ("R WS R", 0, 0, &[1, 1, 1], &[2, 1, 0]),
+    ("L", BY_TEXT, 0, &[0], &[0], 0),
+    ("AL EN", BY_TEXT, 1, &[1, 2], &[1, 0], 3),
+    ("L WS EN", BY_TEXT, 0, &[0, 0, 0], &[0, 1, 2], 0),
+    ("EN CS EN", 1, 1, &[2, 2, 2], &[0, 1, 2], 0),
+    ("EN CS CS EN", 1, 1, &[2, 1, 1, 2], &[3, 2, 1, 0], 6),
+    ("AN ET EN", 1, 1, &[2, 2, 2], &[0, 1, 2], 0),
+    ("R WS L", 0, 0, &[1, 0, 0], &[0, 1, 2], 1),
+    ("R WS L", 1, 1, &[1, 1, 2], &[2, 1, 0], 4),
+    ("RLE L PDF R", 0, 0, &[X, 2, X, 1], &[3, 1], 3),
+    ("EN BN CS EN", 1, 1, &[2, X, 2, 2], &[0, 2, 3], 0),
+    ("R S R", 0, 0, &[1, 1, 1], &[0, 1, 2], 2),
+    ("PDF L", 0, 0, &[X, 0], &[1], 0),
+    ("NSM", 1, 1, &[1], &[0], 1),
+    ("B", BY_TEXT, 0, &[0], &[0], 0),
+    ("R WS R", 0, 0, &[1, 1, 1], &[2, 1, 0], 3),
     // no row of the page: no position is kept
-    ("LRE RLO LRO", 0, 0, &[X, X, X], &[]),
+    ("LRE RLO LRO", 0, 0, &[X, X, X], &[], 0),
 ];
 
 /// The same for CR, which that table does not have: with its B and without one.
 const CR_ROWS: &[Row] = &[
-    ("R WS CR B", 0, 0, &[1, 0, 0, 0], &[0, 1, 2, 3]),
-    ("R WS CR B", 1, 1, &[1, 1, 1, 1], &[3, 2, 1, 0]),
-    ("R WS CR", 0, 0, &[1, 0, 0], &[0, 1, 2]),
-    ("L WS CR", 1, 1, &[2, 1, 1], &[2, 1, 0]),
-    ("EN CR B", BY_TEXT, 0, &[0, 0, 0], &[0, 1, 2]),
-    ("RLO L CR B", 0, 0, &[X, 1, 0, 0], &[1, 2, 3]),
-    ("RLO L CR B", 1, 1, &[X, 3, 1, 1], &[3, 2, 1]),
-    ("LRO R CR", 1, 1, &[X, 2, 1], &[2, 1]),
-    ("CR B", 1, 1, &[1, 1], &[1, 0]),
-    ("CR", BY_TEXT, 0, &[0], &[0]),
+    ("R WS CR B", 0, 0, &[1, 0, 0, 0], &[0, 1, 2, 3], 1),
+    ("R WS CR B", 1, 1, &[1, 1, 1, 1], &[3, 2, 1, 0], 4),
+    ("R WS CR", 0, 0, &[1, 0, 0], &[0, 1, 2], 1),
+    ("L WS CR", 1, 1, &[2, 1, 1], &[2, 1, 0], 4),
+    ("EN CR B", BY_TEXT, 0, &[0, 0, 0], &[0, 1, 2], 0),
+    ("RLO L CR B", 0, 0, &[X, 1, 0, 0], &[1, 2, 3], 1),
+    ("RLO L CR B", 1, 1, &[X, 3, 1, 1], &[3, 2, 1], 5),
+    ("LRO R CR", 1, 1, &[X, 2, 1], &[2, 1], 3),
+    ("CR B", 1, 1, &[1, 1], &[1, 0], 2),
+    ("CR", BY_TEXT, 0, &[0], &[0], 0),
 ];
 
 #[test]
 fn rows_of_the_table() {
-    for &(names, request, base, levels, order) in ROWS.iter().chain(CR_ROWS) {
+    for &(names, request, base, levels, order, reversed) in ROWS.iter().chain(CR_ROWS) {
         let classes = classes(names);
         let (to, ends) = (classes.len(), vec![classes.len() as u16]);
         let resolve = Lent { classes, base: request, room: to + 3, ..Lent::default() };
         accepts(Cut, &resolve, to, &[], &[]);
         accepts(Resolve, &resolve, base.into(), levels, &[]);
         let lines = Lent { base, levels: levels.to_vec(), to, ends, ..resolve };
-        accepts(OrderLine, &lines, order.len(), &[], order);
-        accepts(OrderLines, &lines, order.len(), &[], order);
+        orders(ORDER, &lines, order, reversed);
     }
 }
 
@@ -283,37 +295,118 @@ fn explicit_levels_come_before_the_rules_on_types() {
 #[test]
 fn lines_are_ordered_apart() {
     let whole = Lent { classes: classes("R WS R"), levels: vec![1, 1, 1], room: 4, ..Lent::default() };
-    accepts(OrderLine, &Lent { from: 0, to: 2, ..whole.clone() }, 2, &[], &[0, 1]);
-    accepts(OrderLine, &Lent { from: 2, to: 3, ..whole.clone() }, 1, &[], &[2]);
-    accepts(OrderLines, &Lent { ends: vec![2, 3], ..whole }, 3, &[], &[0, 1, 2]);
+    orders(&[OrderLine], &Lent { from: 0, to: 2, ..whole.clone() }, &[0, 1], 1);
+    orders(&[OrderLine], &Lent { from: 2, to: 3, ..whole.clone() }, &[2], 1);
+    orders(&[OrderLines], &Lent { ends: vec![2, 3], ..whole }, &[0, 1, 2], 2);
 }
 
 #[test]
 fn a_line_may_end_between_cr_and_b() {
     let at_0 = Lent { classes: classes("R WS CR B"), levels: vec![1, 0, 0, 0], room: 5, ..Lent::default() };
     let at_1 = Lent { levels: vec![1, 1, 1, 1], base: 1, ..at_0.clone() };
-    for (whole, first) in [(at_0, [0, 1, 2]), (at_1, [2, 1, 0])] {
-        accepts(OrderLine, &Lent { from: 0, to: 3, ..whole.clone() }, 3, &[], &first);
-        accepts(OrderLine, &Lent { from: 3, to: 4, ..whole.clone() }, 1, &[], &[3]);
-        accepts(OrderLines, &Lent { ends: vec![3, 4], ..whole }, 4, &[], &[&first[..], &[3]].concat());
+    for (whole, first, reversed) in [(at_0, [0, 1, 2], [1, 0]), (at_1, [2, 1, 0], [3, 1])] {
+        orders(&[OrderLine], &Lent { from: 0, to: 3, ..whole.clone() }, &first, reversed[0]);
+        orders(&[OrderLine], &Lent { from: 3, to: 4, ..whole.clone() }, &[3], reversed[1]);
+        let both = [&first[..], &[3]].concat();
+        orders(&[OrderLines], &Lent { ends: vec![3, 4], ..whole }, &both, reversed[0] + reversed[1]);
+    }
+}
+
+/// One line: classes, base, levels, the order, how many positions are reversed.
+type Line = (&'static str, u8, &'static [u8], &'static [u16], usize);
+
+fn order_all(lines: &[Line]) {
+    for &(names, base, levels, order, reversed) in lines {
+        let (levels, to) = (levels.to_vec(), levels.len());
+        let ends = vec![to as u16];
+        let line = Lent { classes: classes(names), base, levels, to, ends, room: to + 1, ..Lent::default() };
+        orders(ORDER, &line, order, reversed);
     }
 }
 
 /// Levels that Resolve does not give, so that the order shows what the line puts back to the base.
 #[test]
 fn a_line_puts_cr_and_the_blanks_before_it_back() {
-    let cases: [(&str, u8, &[u8], &[u16]); 4] = [
-        ("R WS CR B", 0, &[1, 1, 1, 1], &[0, 1, 2, 3]),
-        ("R WS CR", 0, &[1, 1, 1], &[0, 1, 2]),
-        ("R WS BN CR", 0, &[1, 1, X, 1], &[0, 1, 3]),
-        ("R CR", 1, &[2, 3], &[1, 0]),
-    ];
-    for (names, base, levels, order) in cases {
-        let (levels, to) = (levels.to_vec(), levels.len());
-        let ends = vec![to as u16];
-        let line = Lent { classes: classes(names), base, levels, to, ends, room: 5, ..Lent::default() };
-        accepts(OrderLine, &line, order.len(), &[], order);
-        accepts(OrderLines, &line, order.len(), &[], order);
+    order_all(&[
+        ("R WS CR B", 0, &[1, 1, 1, 1], &[0, 1, 2, 3], 1),
+        ("R WS CR", 0, &[1, 1, 1], &[0, 1, 2], 1),
+        ("R WS BN CR", 0, &[1, 1, X, 1], &[0, 1, 3], 1),
+        ("R CR", 1, &[2, 3], &[1, 0], 3),
+    ]);
+}
+
+#[test]
+fn reversed_positions_are_counted() {
+    order_all(&[
+        // no odd level: no pass
+        ("L", 0, &[0], &[0], 0),
+        ("L L L", 1, &[2, 0, 62], &[0, 1, 2], 0),
+        // one odd level: one pass, a stretch of one counted as one
+        ("R", 0, &[1], &[0], 1),
+        ("R", 0, &[61], &[0], 1),
+        ("R L R R", 0, &[1, 0, 1, 1], &[0, 1, 3, 2], 3),
+        // a pass for each number down to the lowest odd level, also where no position is at it
+        ("R L", 0, &[1, 4], &[1, 0], 5),
+        ("R L", 0, &[3, 62], &[1, 0], 61),
+        ("L R R R", 0, &[0, 5, 9, 5], &[0, 3, 2, 1], 7),
+        // levels below the lowest odd one
+        ("L R L L", 0, &[2, 3, 4, 0], &[0, 2, 1, 3], 3),
+        ("L L R", 0, &[60, 60, 61], &[0, 1, 2], 1),
+        // removed positions are not reversed, and do not part a stretch
+        ("R PDF L BN R", 0, &[1, X, 2, X, 1], &[4, 2, 0], 4),
+        ("LRE BN", 1, &[X, X], &[], 0),
+    ]);
+}
+
+/// What counts is the level on the line: the reset lowers or takes away the lowest odd level, or brings one.
+#[test]
+fn reversed_positions_are_counted_after_the_reset() {
+    order_all(&[
+        ("R WS", 0, &[3, 9], &[0, 1], 1),
+        ("R WS", 1, &[3, 9], &[1, 0], 4),
+        ("L S", 0, &[4, 7], &[0, 1], 0),
+        ("L WS B", 1, &[4, 0, 0], &[2, 1, 0], 6),
+        ("WS WS", 1, &[62, 61], &[1, 0], 2),
+    ]);
+}
+
+/// The sum over the lines, each with a lowest odd level of its own; one line has another count.
+#[test]
+fn reversed_positions_of_all_lines_add_up() {
+    let levels = vec![3, 4, 1, 2, 2, 4, 5];
+    let lent = Lent { classes: vec![L.number(); 7], levels, room: 7, ..Lent::default() };
+    let lines = |ends: &[u16]| Lent { ends: ends.to_vec(), ..lent.clone() };
+    let apart: [(usize, usize, &[u16], usize); 4] =
+        [(0, 2, &[1, 0], 3), (2, 4, &[3, 2], 3), (4, 6, &[4, 5], 0), (6, 7, &[6], 1)];
+    for (from, to, order, reversed) in apart {
+        orders(&[OrderLine], &Lent { from, to, ..lent.clone() }, order, reversed);
+    }
+    orders(&[OrderLines], &lines(&[2, 4, 6, 7]), &[1, 0, 3, 2, 4, 5, 6], 7);
+    orders(&[OrderLines], &lines(&[7]), &[3, 4, 5, 6, 2, 1, 0], 21);
+}
+
+/// The longest line, all at level 62 but one. Where that one is at level 1 no line can reverse more.
+#[test]
+fn the_most_positions_are_reversed() {
+    let last = LONGEST as u16 - 1;
+    for (at, odd, reversed) in [(0, 1, 253_891), (1000, 1, 253_891), (last, 1, 253_891), (last, 61, 8_191)] {
+        let mut levels = vec![62; LONGEST];
+        levels[usize::from(at)] = odd;
+        let order: Vec<u16> = (at + 1..=last).chain([at]).chain(0..at).collect();
+        let (classes, ends) = (vec![L.number(); LONGEST], vec![last + 1]);
+        let lent = Lent { classes, levels, to: LONGEST, ends, room: LONGEST, ..Lent::default() };
+        orders(ORDER, &lent, &order, reversed);
+    }
+}
+
+/// A line for each position: every one is a stretch of one.
+#[test]
+fn the_most_lines_add_up() {
+    let counted: Vec<u16> = (0..LONGEST as u16).collect();
+    let (classes, ends) = (vec![R.number(); LONGEST], (1..=LONGEST as u16).collect());
+    let lent = Lent { classes, ends, room: LONGEST, ..Lent::default() };
+    for (level, reversed) in [(1, LONGEST), (61, LONGEST), (62, 0)] {
+        orders(&[OrderLines], &Lent { levels: vec![level; LONGEST], ..lent.clone() }, &counted, reversed);
     }
 }
 
@@ -460,8 +553,7 @@ fn the_longest_paragraph_is_taken() {
         accepts(Base, &longest, 0, &[], &[]);
         accepts(Explicit, &longest, 0, &zeros, &[]);
         accepts(Resolve, &longest, 0, &zeros, &[]);
-        accepts(OrderLine, &longest, LONGEST, &[], &counted);
-        accepts(OrderLines, &longest, LONGEST, &[], &counted);
+        orders(ORDER, &longest, &counted, 0);
     }
 }
 
