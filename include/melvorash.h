@@ -3,7 +3,8 @@
  * the Unicode Standard 3.0, and the drawing order of Arabic marks, by Unicode Standard Annex #53.
  *
  * Link libmelvorash_c.a, for x86-64 Linux. Every function takes any numbers whatever, answers in one struct
- * and does nothing else than fill the buffer that it is lent. What is said of each below is proved.
+ * (of four numbers for an order, else of three) and does nothing else than fill the buffer that it is lent.
+ * What is said of each below is proved.
  *
  * What the caller owes, since nothing can check it:
  *   - A pointer and the count after it fit each other: that many elements can be read, and for a buffer
@@ -113,6 +114,20 @@ typedef struct melvorash_answer {
 } melvorash_answer;
 
 /*
+ * The same for an order. Accepted, value is how many positions were placed and reversed how many the passes of
+ * L2 reversed, added over all passes: in each pass every position of every stretch that it reverses, a stretch
+ * of one counted as one. That is the sum, over the kept positions, of the level on the line less the lowest
+ * odd level there plus 1, where that is positive. It is 0 with no odd level, and at most
+ * MELVORASH_HIGHEST_LEVEL times value, so it may not fit 16 bits. Refused, value and reversed are 0.
+ */
+typedef struct melvorash_order_answer {
+    size_t refusal;
+    size_t place;
+    size_t value;
+    size_t reversed;
+} melvorash_order_answer;
+
+/*
  * The length of the first paragraph. It ends after the first B or CR, or where the classes end; where a B
  * follows the CR directly it ends after that B. Behind a CR only this is looked at, whether the next is B.
  */
@@ -135,19 +150,20 @@ melvorash_answer melvorash_resolve(const uint8_t *classes, size_t class_count, u
 /*
  * Orders the line from position `from` up to, not including, `to`, by L1 and L2. Takes the levels and the
  * base level that melvorash_resolve gave. Writes the line's kept positions from left to right and nothing
- * after them. Answers how many.
+ * after them. Answers how many, and how many positions were reversed.
  */
-melvorash_answer melvorash_order_line(const uint8_t *classes, size_t class_count, const uint8_t *levels,
-                                      size_t level_count, uint8_t base, size_t from, size_t to,
-                                      uint16_t *order, size_t order_count);
+melvorash_order_answer melvorash_order_line(const uint8_t *classes, size_t class_count, const uint8_t *levels,
+                                            size_t level_count, uint8_t base, size_t from, size_t to,
+                                            uint16_t *order, size_t order_count);
 
 /*
  * The same for all lines of the paragraph: `ends` holds the position after each line's last, the last of
- * them the paragraph's length. Each line's order follows the one before.
+ * them the paragraph's length. Each line's order follows the one before. Each of the two numbers answered is
+ * the sum over the lines; the lowest odd level is each line's own.
  */
-melvorash_answer melvorash_order_lines(const uint8_t *classes, size_t class_count, const uint8_t *levels,
-                                       size_t level_count, uint8_t base, const uint16_t *ends,
-                                       size_t end_count, uint16_t *order, size_t order_count);
+melvorash_order_answer melvorash_order_lines(const uint8_t *classes, size_t class_count, const uint8_t *levels,
+                                             size_t level_count, uint8_t base, const uint16_t *ends,
+                                             size_t end_count, uint16_t *order, size_t order_count);
 
 /*
  * The drawing order of decomposed characters for marks that stack from the inside out. Takes each

@@ -31,6 +31,10 @@ enum {
     ALL = CUT | CHECKED /* all that take a paragraph */
 };
 
+/* There is no padding, so that comparing the numbers of an answer compares its bytes. */
+typedef char answer_is_full[sizeof(melvorash_answer) == 3 * sizeof(size_t) ? 1 : -1];
+typedef char order_answer_is_full[sizeof(melvorash_order_answer) == 4 * sizeof(size_t) ? 1 : -1];
+
 typedef struct { const uint8_t *at; size_t count; } bytes;
 typedef struct { const uint16_t *at; size_t count; } places;
 
@@ -50,6 +54,7 @@ typedef struct {
     bytes flags;
     size_t room; /* of the buffer that is filled */
     melvorash_answer wanted;
+    size_t reversed; /* wanted of Order besides */
     bytes wanted_levels;
     places wanted_order;
 } example;
@@ -62,20 +67,27 @@ typedef struct {
 
 static int calls, failures;
 
-static melvorash_answer call(const example *e, unsigned function, buffers *b)
+/* Any answer as one of Order: the others have nothing reversed. */
+static melvorash_order_answer with(melvorash_answer a, size_t reversed)
+{
+    melvorash_order_answer full = {a.refusal, a.place, a.value, reversed};
+    return full;
+}
+
+static melvorash_order_answer call(const example *e, unsigned function, buffers *b)
 {
     size_t n = e->classes.count, lent = e->levels.count;
     switch (function) {
-    case CUT: return melvorash_cut(b->classes, n);
-    case BASE: return melvorash_base(b->classes, n);
-    case EXPLICIT: return melvorash_explicit(b->classes, n, e->base, e->fallback, b->levels, e->room);
-    case RESOLVE: return melvorash_resolve(b->classes, n, e->base, e->fallback, b->levels, e->room);
+    case CUT: return with(melvorash_cut(b->classes, n), 0);
+    case BASE: return with(melvorash_base(b->classes, n), 0);
+    case EXPLICIT: return with(melvorash_explicit(b->classes, n, e->base, e->fallback, b->levels, e->room), 0);
+    case RESOLVE: return with(melvorash_resolve(b->classes, n, e->base, e->fallback, b->levels, e->room), 0);
     case ORDER_LINE:
         return melvorash_order_line(b->classes, n, b->lent, lent, e->base, e->from, e->to, b->order, e->room);
     case ORDER_LINES:
         return melvorash_order_lines(b->classes, n, b->lent, lent, e->base, b->ends, e->ends.count, b->order,
                                      e->room);
-    default: return melvorash_marks(b->classes, n, b->flags, e->flags.count, b->order, e->room);
+    default: return with(melvorash_marks(b->classes, n, b->flags, e->flags.count, b->order, e->room), 0);
     }
 }
 
@@ -107,16 +119,16 @@ static void lend(const example *e, buffers *b)
     copy(b->flags, e->flags.at, e->flags.count);
 }
 
-static void judge(const char *function, const char *name, melvorash_answer got, melvorash_answer wanted,
-                  int buffers_right)
+static void judge(const char *function, const char *name, melvorash_order_answer got,
+                  melvorash_order_answer wanted, int buffers_right)
 {
     int answer_right = memcmp(&got, &wanted, sizeof got) == 0;
     calls++;
     if (answer_right && buffers_right)
         return;
     failures++;
-    printf("failed: %s on %s: answer %zu %zu %zu, wanted %zu %zu %zu%s\n", function, name, got.refusal,
-           got.place, got.value, wanted.refusal, wanted.place, wanted.value,
+    printf("failed: %s on %s: answer %zu %zu %zu %zu, wanted %zu %zu %zu %zu%s\n", function, name, got.refusal,
+           got.place, got.value, got.reversed, wanted.refusal, wanted.place, wanted.value, wanted.reversed,
            buffers_right ? "" : "; a buffer is not as wanted");
 }
 
@@ -128,8 +140,8 @@ static void try_one(const example *e, unsigned function)
     lend(e, &wanted);
     copy(wanted.levels, e->wanted_levels.at, e->wanted_levels.count);
     copy(wanted.order, e->wanted_order.at, e->wanted_order.count * 2);
-    melvorash_answer got = call(e, function, &lent);
-    judge(name_of(function), e->name, got, e->wanted, memcmp(&lent, &wanted, sizeof lent) == 0);
+    melvorash_order_answer got = call(e, function, &lent);
+    judge(name_of(function), e->name, got, with(e->wanted, e->reversed), memcmp(&lent, &wanted, sizeof lent) == 0);
 }
 
 static void try_all(const example *examples, size_t count)
@@ -142,47 +154,51 @@ static void try_all(const example *examples, size_t count)
 
 #define TRY_ALL(examples) try_all(examples, sizeof(examples) / sizeof *(examples))
 
-/* ---- document 01's table: classes, request, base used, resolved levels, the order of one line */
+/*
+ * ---- document 01's table: classes, request, base used, resolved levels, the order of one line; and how many
+ * positions that line reverses, which the table does not have
+ */
 typedef struct {
     const char *name;
     bytes classes;
     uint8_t request, base;
     bytes levels;
     places order;
+    size_t reversed;
 } row;
 
 static const row rows[] = {
-    {"L", BYTES(L), TEXT, 0, BYTES(0), PLACES(0)},
-    {"AL EN", BYTES(AL, EN), TEXT, 1, BYTES(1, 2), PLACES(1, 0)},
-    {"L WS EN", BYTES(L, WS, EN), TEXT, 0, BYTES(0, 0, 0), PLACES(0, 1, 2)},
-    {"EN CS EN", BYTES(EN, CS, EN), 1, 1, BYTES(2, 2, 2), PLACES(0, 1, 2)},
-    {"EN CS CS EN", BYTES(EN, CS, CS, EN), 1, 1, BYTES(2, 1, 1, 2), PLACES(3, 2, 1, 0)},
-    {"AN ET EN", BYTES(AN, ET, EN), 1, 1, BYTES(2, 2, 2), PLACES(0, 1, 2)},
-    {"R WS L at 0", BYTES(R, WS, L), 0, 0, BYTES(1, 0, 0), PLACES(0, 1, 2)},
-    {"R WS L at 1", BYTES(R, WS, L), 1, 1, BYTES(1, 1, 2), PLACES(2, 1, 0)},
-    {"RLE L PDF R", BYTES(RLE, L, PDF, R), 0, 0, BYTES(X, 2, X, 1), PLACES(3, 1)},
-    {"EN BN CS EN", BYTES(EN, BN, CS, EN), 1, 1, BYTES(2, X, 2, 2), PLACES(0, 2, 3)},
-    {"R S R", BYTES(R, S, R), 0, 0, BYTES(1, 1, 1), PLACES(0, 1, 2)},
-    {"PDF L", BYTES(PDF, L), 0, 0, BYTES(X, 0), PLACES(1)},
-    {"NSM", BYTES(NSM), 1, 1, BYTES(1), PLACES(0)},
-    {"B", BYTES(B), TEXT, 0, BYTES(0), PLACES(0)},
-    {"R WS R", BYTES(R, WS, R), 0, 0, BYTES(1, 1, 1), PLACES(2, 1, 0)},
-    {"LRE RLO LRO: no position kept", BYTES(LRE, RLO, LRO), 0, 0, BYTES(X, X, X), {NULL, 0}},
-    {"R ES AN ON: no row of the page", BYTES(R, ES, AN, ON), TEXT, 1, BYTES(1, 1, 2, 1), PLACES(3, 2, 1, 0)},
+    {"L", BYTES(L), TEXT, 0, BYTES(0), PLACES(0), 0},
+    {"AL EN", BYTES(AL, EN), TEXT, 1, BYTES(1, 2), PLACES(1, 0), 3},
+    {"L WS EN", BYTES(L, WS, EN), TEXT, 0, BYTES(0, 0, 0), PLACES(0, 1, 2), 0},
+    {"EN CS EN", BYTES(EN, CS, EN), 1, 1, BYTES(2, 2, 2), PLACES(0, 1, 2), 0},
+    {"EN CS CS EN", BYTES(EN, CS, CS, EN), 1, 1, BYTES(2, 1, 1, 2), PLACES(3, 2, 1, 0), 6},
+    {"AN ET EN", BYTES(AN, ET, EN), 1, 1, BYTES(2, 2, 2), PLACES(0, 1, 2), 0},
+    {"R WS L at 0", BYTES(R, WS, L), 0, 0, BYTES(1, 0, 0), PLACES(0, 1, 2), 1},
+    {"R WS L at 1", BYTES(R, WS, L), 1, 1, BYTES(1, 1, 2), PLACES(2, 1, 0), 4},
+    {"RLE L PDF R", BYTES(RLE, L, PDF, R), 0, 0, BYTES(X, 2, X, 1), PLACES(3, 1), 3},
+    {"EN BN CS EN", BYTES(EN, BN, CS, EN), 1, 1, BYTES(2, X, 2, 2), PLACES(0, 2, 3), 0},
+    {"R S R", BYTES(R, S, R), 0, 0, BYTES(1, 1, 1), PLACES(0, 1, 2), 2},
+    {"PDF L", BYTES(PDF, L), 0, 0, BYTES(X, 0), PLACES(1), 0},
+    {"NSM", BYTES(NSM), 1, 1, BYTES(1), PLACES(0), 1},
+    {"B", BYTES(B), TEXT, 0, BYTES(0), PLACES(0), 0},
+    {"R WS R", BYTES(R, WS, R), 0, 0, BYTES(1, 1, 1), PLACES(2, 1, 0), 3},
+    {"LRE RLO LRO: no position kept", BYTES(LRE, RLO, LRO), 0, 0, BYTES(X, X, X), {NULL, 0}, 0},
+    {"R ES AN ON: no row of the page", BYTES(R, ES, AN, ON), TEXT, 1, BYTES(1, 1, 2, 1), PLACES(3, 2, 1, 0), 5},
 };
 
 /* ---- the same for CR, which that table does not have: with its B and without one */
 static const row cr_rows[] = {
-    {"R WS CR B at 0", BYTES(R, WS, CR, B), 0, 0, BYTES(1, 0, 0, 0), PLACES(0, 1, 2, 3)},
-    {"R WS CR B at 1", BYTES(R, WS, CR, B), 1, 1, BYTES(1, 1, 1, 1), PLACES(3, 2, 1, 0)},
-    {"R WS CR at 0", BYTES(R, WS, CR), 0, 0, BYTES(1, 0, 0), PLACES(0, 1, 2)},
-    {"L WS CR at 1", BYTES(L, WS, CR), 1, 1, BYTES(2, 1, 1), PLACES(2, 1, 0)},
-    {"EN CR B by the text", BYTES(EN, CR, B), TEXT, 0, BYTES(0, 0, 0), PLACES(0, 1, 2)},
-    {"RLO L CR B at 0", BYTES(RLO, L, CR, B), 0, 0, BYTES(X, 1, 0, 0), PLACES(1, 2, 3)},
-    {"RLO L CR B at 1", BYTES(RLO, L, CR, B), 1, 1, BYTES(X, 3, 1, 1), PLACES(3, 2, 1)},
-    {"LRO R CR at 1", BYTES(LRO, R, CR), 1, 1, BYTES(X, 2, 1), PLACES(2, 1)},
-    {"CR B", BYTES(CR, B), 1, 1, BYTES(1, 1), PLACES(1, 0)},
-    {"CR", BYTES(CR), TEXT, 0, BYTES(0), PLACES(0)},
+    {"R WS CR B at 0", BYTES(R, WS, CR, B), 0, 0, BYTES(1, 0, 0, 0), PLACES(0, 1, 2, 3), 1},
+    {"R WS CR B at 1", BYTES(R, WS, CR, B), 1, 1, BYTES(1, 1, 1, 1), PLACES(3, 2, 1, 0), 4},
+    {"R WS CR at 0", BYTES(R, WS, CR), 0, 0, BYTES(1, 0, 0), PLACES(0, 1, 2), 1},
+    {"L WS CR at 1", BYTES(L, WS, CR), 1, 1, BYTES(2, 1, 1), PLACES(2, 1, 0), 4},
+    {"EN CR B by the text", BYTES(EN, CR, B), TEXT, 0, BYTES(0, 0, 0), PLACES(0, 1, 2), 0},
+    {"RLO L CR B at 0", BYTES(RLO, L, CR, B), 0, 0, BYTES(X, 1, 0, 0), PLACES(1, 2, 3), 1},
+    {"RLO L CR B at 1", BYTES(RLO, L, CR, B), 1, 1, BYTES(X, 3, 1, 1), PLACES(3, 2, 1), 5},
+    {"LRO R CR at 1", BYTES(LRO, R, CR), 1, 1, BYTES(X, 2, 1), PLACES(2, 1), 3},
+    {"CR B", BYTES(CR, B), 1, 1, BYTES(1, 1), PLACES(1, 0), 2},
+    {"CR", BYTES(CR), TEXT, 0, BYTES(0), PLACES(0), 0},
 };
 
 /* A row goes through Cut, Resolve with default 0 and both forms of Order, with buffers longer than they need be. */
@@ -195,7 +211,7 @@ static void try_row(const row *r)
          .room = r->classes.count + 3, .wanted = {0, 0, r->base}, .wanted_levels = r->levels},
         {.name = r->name, .functions = ORDER, .classes = r->classes, .base = r->base, .levels = r->levels,
          .to = r->classes.count, .ends = {&end, 1}, .room = r->classes.count + 3,
-         .wanted = {0, 0, r->order.count}, .wanted_order = r->order},
+         .wanted = {0, 0, r->order.count}, .reversed = r->reversed, .wanted_order = r->order},
     };
     TRY_ALL(examples);
 }
@@ -283,35 +299,117 @@ static const example accepted[] = {
     {.name = "AL EN", .functions = EXPLICIT, .classes = BYTES(AL, EN), .base = TEXT, .room = 2,
      .wanted = {0, 0, 1}, .wanted_levels = BYTES(1, 1)},
     {.name = "R WS R, its first line", .functions = ORDER_LINE, .classes = BYTES(R, WS, R),
-     .levels = BYTES(1, 1, 1), .to = 2, .room = 2, .wanted = {0, 0, 2}, .wanted_order = PLACES(0, 1)},
+     .levels = BYTES(1, 1, 1), .to = 2, .room = 2, .wanted = {0, 0, 2}, .reversed = 1, .wanted_order = PLACES(0, 1)},
     {.name = "R WS R, its second line", .functions = ORDER_LINE, .classes = BYTES(R, WS, R),
-     .levels = BYTES(1, 1, 1, 99), .from = 2, .to = 3, .room = 4, .wanted = {0, 0, 1}, .wanted_order = PLACES(2)},
+     .levels = BYTES(1, 1, 1, 99), .from = 2, .to = 3, .room = 4, .wanted = {0, 0, 1}, .reversed = 1,
+     .wanted_order = PLACES(2)},
     {.name = "R WS R, both lines", .functions = ORDER_LINES, .classes = BYTES(R, WS, R),
      .levels = BYTES(1, 1, 1), .ends = PLACES(2, 3), .room = 3, .wanted = {0, 0, 3},
-     .wanted_order = PLACES(0, 1, 2)},
+     .reversed = 2, .wanted_order = PLACES(0, 1, 2)},
     {.name = "RLO L CR B at 0", .functions = EXPLICIT, .classes = BYTES(RLO, L, CR, B), .room = 5,
      .wanted_levels = BYTES(X, 1, 0, 0)},
     {.name = "LRO R CR at 1", .functions = EXPLICIT, .classes = BYTES(LRO, R, CR), .base = 1, .room = 4,
      .wanted = {0, 0, 1}, .wanted_levels = BYTES(X, 2, 1)},
     {.name = "R WS CR B at 0, a line up to B", .functions = ORDER_LINE, .classes = BYTES(R, WS, CR, B),
-     .levels = BYTES(1, 0, 0, 0), .to = 3, .room = 4, .wanted = {0, 0, 3}, .wanted_order = PLACES(0, 1, 2)},
+     .levels = BYTES(1, 0, 0, 0), .to = 3, .room = 4, .wanted = {0, 0, 3}, .reversed = 1,
+     .wanted_order = PLACES(0, 1, 2)},
     {.name = "R WS CR B at 0, B alone", .functions = ORDER_LINE, .classes = BYTES(R, WS, CR, B),
      .levels = BYTES(1, 0, 0, 0), .from = 3, .to = 4, .room = 4, .wanted = {0, 0, 1}, .wanted_order = PLACES(3)},
     {.name = "R WS CR B at 0, both lines", .functions = ORDER_LINES, .classes = BYTES(R, WS, CR, B),
      .levels = BYTES(1, 0, 0, 0), .ends = PLACES(3, 4), .room = 5, .wanted = {0, 0, 4},
-     .wanted_order = PLACES(0, 1, 2, 3)},
+     .reversed = 1, .wanted_order = PLACES(0, 1, 2, 3)},
     {.name = "R WS CR B at 1, both lines", .functions = ORDER_LINES, .classes = BYTES(R, WS, CR, B), .base = 1,
      .levels = BYTES(1, 1, 1, 1), .ends = PLACES(3, 4), .room = 5, .wanted = {0, 0, 4},
-     .wanted_order = PLACES(2, 1, 0, 3)},
+     .reversed = 4, .wanted_order = PLACES(2, 1, 0, 3)},
     /* levels that Resolve does not give, so that the order shows what the line puts back to the base */
     {.name = "R WS CR B, all at 1", .functions = ORDER, .classes = BYTES(R, WS, CR, B), .levels = BYTES(1, 1, 1, 1),
-     .to = 4, .ends = PLACES(4), .room = 4, .wanted = {0, 0, 4}, .wanted_order = PLACES(0, 1, 2, 3)},
+     .to = 4, .ends = PLACES(4), .room = 4, .wanted = {0, 0, 4}, .reversed = 1, .wanted_order = PLACES(0, 1, 2, 3)},
     {.name = "R WS CR B, all at 1, a line up to B", .functions = ORDER_LINE, .classes = BYTES(R, WS, CR, B),
-     .levels = BYTES(1, 1, 1, 1), .to = 3, .room = 4, .wanted = {0, 0, 3}, .wanted_order = PLACES(0, 1, 2)},
+     .levels = BYTES(1, 1, 1, 1), .to = 3, .room = 4, .wanted = {0, 0, 3}, .reversed = 1,
+     .wanted_order = PLACES(0, 1, 2)},
     {.name = "R WS BN CR, all at 1", .functions = ORDER, .classes = BYTES(R, WS, BN, CR), .levels = BYTES(1, 1, X, 1),
-     .to = 4, .ends = PLACES(4), .room = 4, .wanted = {0, 0, 3}, .wanted_order = PLACES(0, 1, 3)},
+     .to = 4, .ends = PLACES(4), .room = 4, .wanted = {0, 0, 3}, .reversed = 1, .wanted_order = PLACES(0, 1, 3)},
     {.name = "R CR, at 2 and 3", .functions = ORDER, .classes = BYTES(R, CR), .base = 1, .levels = BYTES(2, 3),
-     .to = 2, .ends = PLACES(2), .room = 4, .wanted = {0, 0, 2}, .wanted_order = PLACES(1, 0)},
+     .to = 2, .ends = PLACES(2), .room = 4, .wanted = {0, 0, 2}, .reversed = 3, .wanted_order = PLACES(1, 0)},
+};
+
+/* ---- how many positions a line reverses: classes, base, levels, the order and the number */
+typedef struct {
+    const char *name;
+    bytes classes;
+    uint8_t base;
+    bytes levels;
+    places order;
+    size_t reversed;
+} line;
+
+static const line lines[] = {
+    {"no odd level, 0", BYTES(L), 0, BYTES(0), PLACES(0), 0},
+    {"no odd level, 2 0 62", BYTES(L, L, L), 1, BYTES(2, 0, 62), PLACES(0, 1, 2), 0},
+    {"a stretch of one, 1", BYTES(R), 0, BYTES(1), PLACES(0), 1},
+    {"a stretch of one, 61", BYTES(R), 0, BYTES(61), PLACES(0), 1},
+    {"one odd level, 1 0 1 1", BYTES(R, L, R, R), 0, BYTES(1, 0, 1, 1), PLACES(0, 1, 3, 2), 3},
+    {"a gap, 1 4", BYTES(R, L), 0, BYTES(1, 4), PLACES(1, 0), 5},
+    {"a gap, 3 62", BYTES(R, L), 0, BYTES(3, 62), PLACES(1, 0), 61},
+    {"gaps, 0 5 9 5", BYTES(L, R, R, R), 0, BYTES(0, 5, 9, 5), PLACES(0, 3, 2, 1), 7},
+    {"below the lowest odd level, 2 3 4 0", BYTES(L, R, L, L), 0, BYTES(2, 3, 4, 0), PLACES(0, 2, 1, 3), 3},
+    {"below the lowest odd level, 60 60 61", BYTES(L, L, R), 0, BYTES(60, 60, 61), PLACES(0, 1, 2), 1},
+    {"removed within a stretch", BYTES(R, PDF, L, BN, R), 0, BYTES(1, X, 2, X, 1), PLACES(4, 2, 0), 4},
+    {"all removed", BYTES(LRE, BN), 1, BYTES(X, X), {NULL, 0}, 0},
+    /* what counts is the level after the reset: it lowers the lowest odd level, takes it away or brings one */
+    {"R WS at 0, 3 9", BYTES(R, WS), 0, BYTES(3, 9), PLACES(0, 1), 1},
+    {"R WS at 1, 3 9", BYTES(R, WS), 1, BYTES(3, 9), PLACES(1, 0), 4},
+    {"L S at 0, 4 7", BYTES(L, S), 0, BYTES(4, 7), PLACES(0, 1), 0},
+    {"L WS B at 1, 4 0 0", BYTES(L, WS, B), 1, BYTES(4, 0, 0), PLACES(2, 1, 0), 6},
+    {"WS WS at 1, 62 61", BYTES(WS, WS), 1, BYTES(62, 61), PLACES(1, 0), 2},
+};
+
+static void try_line(const line *l)
+{
+    uint16_t end = (uint16_t)l->classes.count;
+    const example e = {.name = l->name, .functions = ORDER, .classes = l->classes, .base = l->base,
+                       .levels = l->levels, .to = end, .ends = {&end, 1}, .room = l->classes.count + 1,
+                       .wanted = {0, 0, l->order.count}, .reversed = l->reversed, .wanted_order = l->order};
+    try_all(&e, 1);
+}
+
+/* ---- for all lines the sum, each line with a lowest odd level of its own; as one line it is another number */
+#define SEVEN .classes = BYTES(L, L, L, L, L, L, L), .levels = BYTES(3, 4, 1, 2, 2, 4, 5), .room = 7
+static const example sums[] = {
+    {.name = "3 4", .functions = ORDER_LINE, SEVEN, .to = 2, .wanted = {0, 0, 2}, .reversed = 3,
+     .wanted_order = PLACES(1, 0)},
+    {.name = "1 2", .functions = ORDER_LINE, SEVEN, .from = 2, .to = 4, .wanted = {0, 0, 2}, .reversed = 3,
+     .wanted_order = PLACES(3, 2)},
+    {.name = "2 4", .functions = ORDER_LINE, SEVEN, .from = 4, .to = 6, .wanted = {0, 0, 2},
+     .wanted_order = PLACES(4, 5)},
+    {.name = "5", .functions = ORDER_LINE, SEVEN, .from = 6, .to = 7, .wanted = {0, 0, 1}, .reversed = 1,
+     .wanted_order = PLACES(6)},
+    {.name = "3 4, 1 2, 2 4, 5", .functions = ORDER_LINES, SEVEN, .ends = PLACES(2, 4, 6, 7),
+     .wanted = {0, 0, 7}, .reversed = 7, .wanted_order = PLACES(1, 0, 3, 2, 4, 5, 6)},
+    {.name = "3 4 1 2 2 4 5", .functions = ORDER, SEVEN, .to = 7, .ends = PLACES(7), .wanted = {0, 0, 7},
+     .reversed = 21, .wanted_order = PLACES(3, 4, 5, 6, 2, 1, 0)},
+};
+
+/* ---- each refusal of an order but 3, on a line that would reverse positions: nothing is placed or reversed */
+static const example refused_counts[] = {
+    {.name = "1 2, no classes", .functions = ORDER, .levels = BYTES(1, 2), .to = 2, .ends = PLACES(2), .room = 2,
+     .wanted = {1, 0, 0}},
+    {.name = "1 2, R 20", .functions = ORDER, .classes = BYTES(R, CLASSES), .levels = BYTES(1, 2), .to = 2,
+     .ends = PLACES(2), .room = 2, .wanted = {2, 1, 0}},
+    {.name = "1 2 1, R B R", .functions = ORDER, .classes = BYTES(R, B, R), .levels = BYTES(1, 2, 1), .to = 3,
+     .ends = PLACES(3), .room = 3, .wanted = {4, 1, 0}},
+    {.name = "1 2, base 2", .functions = ORDER, .classes = BYTES(R, L), .base = 2, .levels = BYTES(1, 2), .to = 2,
+     .ends = PLACES(2), .room = 2, .wanted = {5, 0, 0}},
+    {.name = "1 and no more", .functions = ORDER, .classes = BYTES(R, L), .levels = BYTES(1), .to = 1,
+     .ends = PLACES(2), .room = 2, .wanted = {6, 0, 0}},
+    {.name = "1 2 63", .functions = ORDER, .classes = BYTES(R, L, L), .levels = BYTES(1, 2, 63), .to = 2,
+     .ends = PLACES(3), .room = 3, .wanted = {7, 2, 0}},
+    {.name = "1 2, a line to 3", .functions = ORDER_LINE, .classes = BYTES(R, L), .levels = BYTES(1, 2), .to = 3,
+     .room = 3, .wanted = {8, 0, 0}},
+    {.name = "1 2, ends 1", .functions = ORDER_LINES, .classes = BYTES(R, L), .levels = BYTES(1, 2),
+     .ends = PLACES(1), .room = 2, .wanted = {10, 0, 0}},
+    {.name = "1 2, room for 1", .functions = ORDER, .classes = BYTES(R, L), .levels = BYTES(1, 2), .to = 2,
+     .ends = PLACES(2), .room = 1, .wanted = {9, 0, 0}},
 };
 
 /* ---- bad input, most of it with a second fault that is not the one to be given */
@@ -481,6 +579,51 @@ static void try_longest(void)
     TRY_ALL(examples);
 }
 
+/* All at level 62 but one. Where that one is at level 1 no line can reverse more. */
+static void try_one_odd(uint16_t at, uint8_t odd, size_t reversed)
+{
+    static uint8_t classes[LONGEST], levels[LONGEST];
+    static uint16_t order[LONGEST];
+    static const uint16_t end = LONGEST;
+    uint16_t *next = order;
+    memset(levels, 62, LONGEST);
+    levels[at] = odd;
+    for (int i = at + 1; i < LONGEST; i++)
+        *next++ = (uint16_t)i;
+    *next++ = at;
+    for (int i = 0; i < at; i++)
+        *next++ = (uint16_t)i;
+    const example e = {.name = "4096 at 62 but one", .functions = ORDER, .classes = {classes, LONGEST},
+                       .levels = {levels, LONGEST}, .to = LONGEST, .ends = {&end, 1}, .room = LONGEST,
+                       .wanted = {0, 0, LONGEST}, .reversed = reversed, .wanted_order = {order, LONGEST}};
+    try_all(&e, 1);
+}
+
+/* ---- the most that can be reversed, a line for each position, and a count that is refused with 3 */
+static void try_most_reversed(void)
+{
+    static uint8_t classes[LONGEST + 1], ones[LONGEST + 1];
+    static uint16_t counted[LONGEST], ends[LONGEST];
+    static const uint16_t end = LONGEST + 1;
+    try_one_odd(0, 1, 253891);
+    try_one_odd(1000, 1, 253891);
+    try_one_odd(LONGEST - 1, 1, 253891);
+    try_one_odd(LONGEST - 1, 61, 8191);
+    memset(ones, 1, LONGEST + 1);
+    for (int i = 0; i < LONGEST; i++) {
+        counted[i] = (uint16_t)i;
+        ends[i] = (uint16_t)(i + 1);
+    }
+    const example examples[] = {
+        {.name = "4096 lines at 1", .functions = ORDER_LINES, .classes = {classes, LONGEST},
+         .levels = {ones, LONGEST}, .ends = {ends, LONGEST}, .room = LONGEST, .wanted = {0, 0, LONGEST},
+         .reversed = LONGEST, .wanted_order = {counted, LONGEST}},
+        {.name = "4097 at 1", .functions = ORDER, .classes = {classes, LONGEST + 1}, .levels = {ones, LONGEST + 1},
+         .to = LONGEST, .ends = {&end, 1}, .room = LONGEST + 1, .wanted = {3, 0, 0}},
+    };
+    TRY_ALL(examples);
+}
+
 /* ---- CR as the 4,096th, and what may follow it; then as the one before, with its B the 4,096th */
 static void try_longest_cr(void)
 {
@@ -519,8 +662,8 @@ static void try_longest_cr(void)
 static void try_lent_alone(void)
 {
     static const uint8_t classes[] = {L, CR, B};
-    const melvorash_answer two = {0, 0, 2};
-    judge("cut", "L CR, a B behind what is lent", melvorash_cut(classes, 2), two, 1);
+    const melvorash_order_answer two = {0, 0, 2, 0};
+    judge("cut", "L CR, a B behind what is lent", with(melvorash_cut(classes, 2), 0), two, 1);
 }
 
 /* ---- a null pointer with count 0 is an empty buffer */
@@ -528,23 +671,23 @@ static void try_null(void)
 {
     static const uint8_t l = L;
     static const uint16_t end = 1;
-    const melvorash_answer none = {1, 0, 0}, no_levels = {6, 0, 0}, no_order = {9, 0, 0}, no_ends = {10, 0, 0};
-    const melvorash_answer short_buffer = {16, 0, 0};
-    judge("cut", "null", melvorash_cut(NULL, 0), none, 1);
-    judge("base", "null", melvorash_base(NULL, 0), none, 1);
-    judge("explicit", "null", melvorash_explicit(NULL, 0, 0, 0, NULL, 0), none, 1);
-    judge("explicit", "null levels", melvorash_explicit(&l, 1, 0, 0, NULL, 0), no_levels, 1);
-    judge("resolve", "null", melvorash_resolve(NULL, 0, 0, 0, NULL, 0), none, 1);
-    judge("resolve", "null levels", melvorash_resolve(&l, 1, 0, 0, NULL, 0), no_levels, 1);
+    const melvorash_order_answer none = {1, 0, 0, 0}, no_levels = {6, 0, 0, 0}, no_order = {9, 0, 0, 0};
+    const melvorash_order_answer no_ends = {10, 0, 0, 0}, short_buffer = {16, 0, 0, 0};
+    judge("cut", "null", with(melvorash_cut(NULL, 0), 0), none, 1);
+    judge("base", "null", with(melvorash_base(NULL, 0), 0), none, 1);
+    judge("explicit", "null", with(melvorash_explicit(NULL, 0, 0, 0, NULL, 0), 0), none, 1);
+    judge("explicit", "null levels", with(melvorash_explicit(&l, 1, 0, 0, NULL, 0), 0), no_levels, 1);
+    judge("resolve", "null", with(melvorash_resolve(NULL, 0, 0, 0, NULL, 0), 0), none, 1);
+    judge("resolve", "null levels", with(melvorash_resolve(&l, 1, 0, 0, NULL, 0), 0), no_levels, 1);
     judge("order_line", "null", melvorash_order_line(NULL, 0, NULL, 0, 0, 0, 1, NULL, 0), none, 1);
     judge("order_line", "null levels", melvorash_order_line(&l, 1, NULL, 0, 0, 0, 1, NULL, 0), no_levels, 1);
     judge("order_line", "null order", melvorash_order_line(&l, 1, &l, 1, 0, 0, 1, NULL, 0), no_order, 1);
     judge("order_lines", "null", melvorash_order_lines(NULL, 0, NULL, 0, 0, NULL, 0, NULL, 0), none, 1);
     judge("order_lines", "null ends", melvorash_order_lines(&l, 1, &l, 1, 0, NULL, 0, NULL, 0), no_ends, 1);
     judge("order_lines", "null order", melvorash_order_lines(&l, 1, &l, 1, 0, &end, 1, NULL, 0), no_order, 1);
-    judge("marks", "null", melvorash_marks(NULL, 0, NULL, 0, NULL, 0), none, 1);
-    judge("marks", "null flags and order", melvorash_marks(&l, 1, NULL, 0, NULL, 0), short_buffer, 1);
-    judge("marks", "null order", melvorash_marks(&l, 1, &l, 1, NULL, 0), short_buffer, 1);
+    judge("marks", "null", with(melvorash_marks(NULL, 0, NULL, 0, NULL, 0), 0), none, 1);
+    judge("marks", "null flags and order", with(melvorash_marks(&l, 1, NULL, 0, NULL, 0), 0), short_buffer, 1);
+    judge("marks", "null order", with(melvorash_marks(&l, 1, &l, 1, NULL, 0), 0), short_buffer, 1);
 }
 
 int main(void)
@@ -556,7 +699,11 @@ int main(void)
     for (size_t i = 0; i < sizeof texts / sizeof *texts; i++)
         try_text(&texts[i]);
     TRY_ALL(accepted);
+    for (size_t i = 0; i < sizeof lines / sizeof *lines; i++)
+        try_line(&lines[i]);
+    TRY_ALL(sums);
     TRY_ALL(refused);
+    TRY_ALL(refused_counts);
     try_bad_defaults();
     for (size_t i = 0; i < sizeof stacks / sizeof *stacks; i++)
         try_stack(&stacks[i]);
@@ -564,6 +711,7 @@ int main(void)
     try_most_marks();
     try_longest();
     try_longest_cr();
+    try_most_reversed();
     try_lent_alone();
     try_null();
     printf("C: %d calls, %d failed\n", calls, failures);

@@ -8,9 +8,9 @@ void module_cut(melvorash_answer *, const uint8_t *, size_t);
 void module_base(melvorash_answer *, const uint8_t *, size_t);
 void module_explicit(melvorash_answer *, const uint8_t *, size_t, uint8_t, uint8_t, uint8_t *, size_t);
 void module_resolve(melvorash_answer *, const uint8_t *, size_t, uint8_t, uint8_t, uint8_t *, size_t);
-void module_order_line(melvorash_answer *, const uint8_t *, size_t, const uint8_t *, size_t, uint8_t, size_t,
+void module_order_line(melvorash_order_answer *, const uint8_t *, size_t, const uint8_t *, size_t, uint8_t, size_t,
                        size_t, uint16_t *, size_t);
-void module_order_lines(melvorash_answer *, const uint8_t *, size_t, const uint8_t *, size_t, uint8_t,
+void module_order_lines(melvorash_order_answer *, const uint8_t *, size_t, const uint8_t *, size_t, uint8_t,
                         const uint16_t *, size_t, uint16_t *, size_t);
 void module_marks(melvorash_answer *, const uint8_t *, size_t, const uint8_t *, size_t, uint16_t *, size_t);
 
@@ -44,20 +44,20 @@ melvorash_answer melvorash_resolve(const uint8_t *classes, size_t class_count, u
     return answer;
 }
 
-melvorash_answer melvorash_order_line(const uint8_t *classes, size_t class_count, const uint8_t *levels,
-                                      size_t level_count, uint8_t base, size_t from, size_t to, uint16_t *order,
-                                      size_t order_count)
+melvorash_order_answer melvorash_order_line(const uint8_t *classes, size_t class_count, const uint8_t *levels,
+                                            size_t level_count, uint8_t base, size_t from, size_t to,
+                                            uint16_t *order, size_t order_count)
 {
-    melvorash_answer answer;
+    melvorash_order_answer answer;
     module_order_line(&answer, classes, class_count, levels, level_count, base, from, to, order, order_count);
     return answer;
 }
 
-melvorash_answer melvorash_order_lines(const uint8_t *classes, size_t class_count, const uint8_t *levels,
-                                       size_t level_count, uint8_t base, const uint16_t *ends, size_t end_count,
-                                       uint16_t *order, size_t order_count)
+melvorash_order_answer melvorash_order_lines(const uint8_t *classes, size_t class_count, const uint8_t *levels,
+                                             size_t level_count, uint8_t base, const uint16_t *ends,
+                                             size_t end_count, uint16_t *order, size_t order_count)
 {
-    melvorash_answer answer;
+    melvorash_order_answer answer;
     module_order_lines(&answer, classes, class_count, levels, level_count, base, ends, end_count, order, order_count);
     return answer;
 }

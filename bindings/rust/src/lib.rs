@@ -13,6 +13,7 @@
 //! let line = melvorash::order_line(&classes, &levels, base, 0, 4, &mut order)?;
 //! assert_eq!((base, levels), (1, [1, 1, 2, 2]));
 //! assert_eq!(order[..line.placed], [2, 3, 1, 0]);
+//! assert_eq!(line.reversed, 6);
 //! # Ok::<(), melvorash::Refusal>(())
 //! ```
 //!
