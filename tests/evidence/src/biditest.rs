@@ -1,22 +1,24 @@
 //! The Unicode consortium's BidiTest file: every row as one paragraph and one line, in every direction of its
 //! bit set. The file gives levels after L1, which the library does not give out, so its resolved levels get
-//! the second program's L1. A refusal is a difference too, so a row with B before its last position would be
-//! one; edition 6.2.0 has none.
+//! the second program's L1. It gives no count of the reversals, but by the law of the sum its levels do. A
+//! refusal is a difference too, so a row with B before its last position would be one; edition 6.2.0 has none.
 use crate::classes;
 use crate::program::{Program, LIBRARY, SECOND};
+use crate::sum;
 use crate::tally::Tally;
-use second::Refused;
+use second::{Ordered, Refused};
 
 /// The file's auto direction is left to right where the text gives none.
 const DEFAULT: u8 = 0;
 /// The bits of a row's set, the request that each stands for, and its name.
 const DIRECTIONS: [(u8, u8, &str); 3] = [(1, 2, "by text"), (2, 0, "left to right"), (4, 1, "right to left")];
 
-/// The levels after L1, and the order of the whole row as one line.
+/// The levels after L1, the order of the whole row as one line, and how many positions were reversed for it.
 #[derive(Debug, Default, PartialEq)]
 struct Displayed {
     levels: Vec<u8>,
     order: Vec<u16>,
+    reversed: usize,
 }
 
 #[derive(Default)]
@@ -57,6 +59,7 @@ pub fn run(path: &str) -> Result<bool, String> {
 fn take_line(wanted: &mut Displayed, counts: &mut Counts, line: &str, number: usize) -> Option<()> {
     if let Some(levels) = line.strip_prefix("@Levels:") {
         wanted.levels = levels.split_whitespace().map(level).collect::<Option<_>>()?;
+        wanted.reversed = sum::of_line(&wanted.levels);
     } else if let Some(order) = line.strip_prefix("@Reorder:") {
         wanted.order = order.split_whitespace().map(|place| place.parse().ok()).collect::<Option<_>>()?;
     } else if let Some(total) = line.strip_prefix("#Total Count:") {
@@ -99,7 +102,7 @@ fn displayed(program: &Program, classes: &[u8], request: u8) -> Result<Displayed
     let mut levels = vec![0; length];
     let mut order = vec![0; length];
     let base = (program.resolve_levels)(classes, request, DEFAULT, &mut levels)?;
-    let count = (program.order_line)(classes, &levels, base, 0, length, &mut order)?;
-    order.truncate(count);
-    Ok(Displayed { levels: second::line_levels(classes, &levels, base, 0, length), order })
+    let Ordered { placed, reversed } = (program.order_line)(classes, &levels, base, 0, length, &mut order)?;
+    order.truncate(placed);
+    Ok(Displayed { levels: second::line_levels(classes, &levels, base, 0, length), order, reversed })
 }

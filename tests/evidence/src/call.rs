@@ -1,7 +1,7 @@
 //! One call of either program on one input.
 use crate::classes;
 use crate::program::Program;
-use second::Refused;
+use second::{Ordered, Refused};
 use std::borrow::Cow;
 use std::fmt;
 
@@ -22,7 +22,32 @@ pub const JOBS: [Job; 7] =
     [Job::Cut, Job::CutPart, Job::Base, Job::Explicit, Job::Resolve, Job::OrderLine, Job::OrderLines];
 
 /// Base's answer where none is found; no byte, so no level.
-pub const NONE_FOUND: usize = 256;
+pub const NONE_FOUND: Answer = Answer { value: 256, reversed: None };
+
+/// What an accepted call answers: a number, and Order the count of the reversals beside it.
+#[derive(Clone, Copy, Debug, PartialEq)]
+pub struct Answer {
+    pub value: usize,
+    pub reversed: Option<usize>,
+}
+
+impl From<usize> for Answer {
+    fn from(value: usize) -> Answer {
+        Answer { value, reversed: None }
+    }
+}
+
+impl From<u8> for Answer {
+    fn from(level: u8) -> Answer {
+        Answer::from(usize::from(level))
+    }
+}
+
+impl From<Ordered> for Answer {
+    fn from(ordered: Ordered) -> Answer {
+        Answer { value: ordered.placed, reversed: Some(ordered.reversed) }
+    }
+}
 
 /// What the jobs are lent to read and how much room they get to write; each takes of it what it has.
 #[derive(Clone, Default)]
@@ -63,20 +88,37 @@ impl Input<'_> {
         job: Job,
         levels: &mut [u8],
         order: &mut [u16],
-    ) -> Result<usize, Refused> {
+    ) -> Result<Answer, Refused> {
         let Input {
             classes, request, fallback, base, levels: lent, from, to, ends, combining, flags, ..
         } = self;
         match job {
-            Job::Cut => (program.cut)(classes),
-            Job::CutPart => length_of_part(classes, (program.cut_part)(classes)),
-            Job::Base => (program.base)(classes).map(|found| found.map_or(NONE_FOUND, usize::from)),
-            Job::Explicit => (program.explicit_levels)(classes, *request, *fallback, levels).map(usize::from),
-            Job::Resolve => (program.resolve_levels)(classes, *request, *fallback, levels).map(usize::from),
-            Job::OrderLine => (program.order_line)(classes, lent, *base, *from, *to, order),
-            Job::OrderLines => (program.order_lines)(classes, lent, *base, ends, order),
-            Job::Marks => (program.marks)(combining, flags, order),
+            Job::Cut => (program.cut)(classes).map(Answer::from),
+            Job::CutPart => length_of_part(classes, (program.cut_part)(classes)).map(Answer::from),
+            Job::Base => (program.base)(classes).map(|found| found.map_or(NONE_FOUND, Answer::from)),
+            Job::Explicit => {
+                (program.explicit_levels)(classes, *request, *fallback, levels).map(Answer::from)
+            }
+            Job::Resolve => (program.resolve_levels)(classes, *request, *fallback, levels).map(Answer::from),
+            Job::OrderLine => (program.order_line)(classes, lent, *base, *from, *to, order).map(Answer::from),
+            Job::OrderLines => (program.order_lines)(classes, lent, *base, ends, order).map(Answer::from),
+            Job::Marks => (program.marks)(combining, flags, order).map(Answer::from),
         }
+    }
+
+    /// The lines that the job orders, each from where to where.
+    pub fn lines(&self, job: Job) -> Vec<(usize, usize)> {
+        let ends = || self.ends.iter().map(|&end| usize::from(end));
+        match job {
+            Job::OrderLine => vec![(self.from, self.to)],
+            Job::OrderLines => [0].into_iter().chain(ends()).zip(ends()).collect(),
+            _ => Vec::new(),
+        }
+    }
+
+    /// The levels of a line after the second program's reset, 255 where removed. The input must be sound.
+    pub fn line_levels(&self, (from, to): (usize, usize)) -> Vec<u8> {
+        second::line_levels(&self.classes, &self.levels, self.base, from, to)
     }
 }
 

@@ -1,6 +1,8 @@
-//! The library beside the second program: the same answer, and every place of the filled buffer the same.
-use crate::call::{Input, Job};
+//! The library beside the second program: the same answer, and every place of the filled buffer the same. And
+//! the count of the reversals beside the sum that it is to equal.
+use crate::call::{Answer, Input, Job};
 use crate::program::{Program, LIBRARY, SECOND};
+use crate::sum;
 use crate::tally::Tally;
 use second::Refused;
 
@@ -13,7 +15,7 @@ const BEYOND: usize = 2;
 /// What a call answered and left in the buffers that a job may fill, and after them.
 #[derive(Debug, PartialEq)]
 pub struct Outcome {
-    pub answer: Result<usize, Refused>,
+    pub answer: Result<Answer, Refused>,
     pub levels: Vec<u8>,
     pub order: Vec<u16>,
 }
@@ -34,5 +36,22 @@ pub fn compare(tally: &mut Tally, name: &str, job: Job, input: &Input) -> Outcom
     if library != second {
         tally.differ(|| format!("{name}{job:?}\n{input}\n  library {library:?}\n  second  {second:?}"));
     }
+    check_sum(tally, name, job, input, [library.answer, second.answer]);
     library
+}
+
+/// The law of the sum on the count that the library answers, the first of the two answers, where both programs
+/// take the input.
+pub fn check_sum(
+    tally: &mut Tally,
+    name: &str,
+    job: Job,
+    input: &Input,
+    answers: [Result<Answer, Refused>; 2],
+) {
+    if let [Ok(Answer { reversed: Some(reversed), .. }), Ok(_)] = answers {
+        if !sum::holds(input.lines(job).into_iter().map(|line| input.line_levels(line)), reversed) {
+            tally.differ(|| format!("{name}the law of the sum: {job:?} counts {reversed}\n{input}"));
+        }
+    }
 }

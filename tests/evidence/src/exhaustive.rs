@@ -24,10 +24,11 @@ pub fn run() -> bool {
     paragraphs += each_sequence(&FEWER, LENGTH + 1, |classes| try_classes(&mut tally, classes));
     println!(
         "exhaustive: {paragraphs} class sequences, {} calls of each program, {} differences; \
-         Base found none {} times; refusals 1 to 10 met: {}",
+         Base found none {} times; {}; refusals 1 to 10 met: {}",
         tally.calls,
         tally.differences,
         tally.none_found,
+        tally.reversals_met(),
         tally.refusals_met(1..=10)
     );
     tally.differences == 0
@@ -74,7 +75,7 @@ fn try_levels(tally: &mut Tally, input: &mut Input, request: u8, fallback: u8) -
     (input.request, input.fallback) = (request, fallback);
     compare(tally, "", Job::Explicit, input);
     let resolved = compare(tally, "", Job::Resolve, input);
-    input.base = resolved.answer.map_or(0, |base| base as u8);
+    input.base = resolved.answer.map_or(0, |base| base.value as u8);
     input.levels = resolved.levels.clone().into();
     resolved
 }

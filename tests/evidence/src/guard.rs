@@ -2,8 +2,8 @@
 //! that may not be touched, and what is lent to be read may not be written. Answers and buffers are compared
 //! with the second program's as well.
 use crate::call::{Input, Job, JOBS};
-use crate::classes::{B, CR, LONGEST};
-use crate::compare::{outcome, UNTOUCHED, UNTOUCHED_PLACE};
+use crate::classes::{B, CR, HIGHEST_LEVEL, L, LONGEST};
+use crate::compare::{check_sum, outcome, UNTOUCHED, UNTOUCHED_PLACE};
 use crate::generator::Generator;
 use crate::memory::{Guarded, Side};
 use crate::program::{LIBRARY, SECOND};
@@ -42,15 +42,17 @@ pub fn run() -> bool {
     try_input(&mut tally, &mut buffers, &[Job::Marks], &Input::default());
     for length in (1..=SHORT).chain([LONGEST - 2, LONGEST - 1, LONGEST]) {
         try_length(&mut tally, &mut buffers, length);
+        try_most(&mut tally, &mut buffers, length);
         try_texts(&mut tally, &mut buffers, length);
         try_marks(&mut tally, &mut buffers, length);
     }
     println!(
         "guard: {} calls at memory that may not be touched, {} differences; \
-         Base found none {} times; refusals 1 to 10 and 16 met: {}",
+         Base found none {} times; {}; refusals 1 to 10 and 16 met: {}",
         tally.calls,
         tally.differences,
         tally.none_found,
+        tally.reversals_met(),
         tally.refusals_met((1..=10).chain([16]))
     );
     tally.differences == 0
@@ -88,6 +90,22 @@ fn try_bad(tally: &mut Tally, buffers: &mut Buffers, random: &mut Generator, sou
         let bad = Input { request, fallback: spoil::bad_default(random), ..sound.clone() };
         try_input(tally, buffers, &[Job::Explicit, Job::Resolve], &bad);
     }
+}
+
+/// A line of which as many positions are reversed as can be: all at the highest level, but one at level 1.
+fn try_most(tally: &mut Tally, buffers: &mut Buffers, length: usize) {
+    let random = &mut Generator::new(length as u64, 3);
+    let mut levels = vec![HIGHEST_LEVEL; length];
+    levels[random.place(length)] = 1;
+    let line = Input {
+        classes: vec![L; length].into(),
+        levels: levels.into(),
+        to: length,
+        ends: vec![length as u16].into(),
+        order_room: length,
+        ..Input::default()
+    };
+    try_input(tally, buffers, &[Job::OrderLine, Job::OrderLines], &line);
 }
 
 /// Texts to cut in which a newline of each form stands after so many positions.
@@ -128,7 +146,7 @@ fn resolved(random: &mut Generator, classes: Vec<u8>, request: u8, fallback: u8)
         ..Input::default()
     };
     let resolved = outcome(&LIBRARY, Job::Resolve, &input);
-    input.base = resolved.answer.map_or(0, |base| base as u8);
+    input.base = resolved.answer.map_or(0, |base| base.value as u8);
     input.levels = resolved.levels[..length].to_vec().into();
     input
 }
@@ -163,4 +181,5 @@ fn try_call(tally: &mut Tally, buffers: &mut Buffers, job: Job, side: Side, inpu
     {
         tally.differ(|| format!("{name}\n  library {answer:?} {levels:?} {order:?}\n  second  {second:?}"));
     }
+    check_sum(tally, "", job, input, [answer, second.answer]);
 }

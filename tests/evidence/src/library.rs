@@ -1,6 +1,6 @@
 //! The library under test, called through its Rust crate and so through the boundary that C calls too.
 //! Nothing else here calls it, so a fault put into this file stands between the library and every test.
-use second::Refused;
+use second::{Ordered, Refused};
 
 pub fn cut(classes: &[u8]) -> Result<usize, Refused> {
     melvorash::cut(classes).map_err(refused)
@@ -29,8 +29,8 @@ pub fn order_line(
     from: usize,
     to: usize,
     order: &mut [u16],
-) -> Result<usize, Refused> {
-    melvorash::order_line(classes, levels, base, from, to, order).map_err(refused)
+) -> Result<Ordered, Refused> {
+    melvorash::order_line(classes, levels, base, from, to, order).map(ordered).map_err(refused)
 }
 
 pub fn order_lines(
@@ -39,12 +39,16 @@ pub fn order_lines(
     base: u8,
     ends: &[u16],
     order: &mut [u16],
-) -> Result<usize, Refused> {
-    melvorash::order_lines(classes, levels, base, ends, order).map_err(refused)
+) -> Result<Ordered, Refused> {
+    melvorash::order_lines(classes, levels, base, ends, order).map(ordered).map_err(refused)
 }
 
 pub fn marks(classes: &[u8], flags: &[u8], order: &mut [u16]) -> Result<usize, Refused> {
     melvorash::marks(classes, flags, order).map_err(refused)
+}
+
+fn ordered(answer: melvorash::Ordered) -> Ordered {
+    Ordered { placed: answer.placed, reversed: answer.reversed }
 }
 
 fn refused(refusal: melvorash::Refusal) -> Refused {

@@ -1,6 +1,6 @@
 //! Evidence from outside that the library's definitions are right: what the library answers beside the
-//! consortium's BidiTest file, beside a second program written apart from it, and beside the law on pairs and
-//! the laws of the marks.
+//! consortium's BidiTest file, beside a second program written apart from it, and beside the law on pairs, the
+//! law of the sum and the laws of the marks.
 //! Each command prints what it compared, and ends with status 1 where anything differs.
 mod biditest;
 mod call;
@@ -17,6 +17,7 @@ mod program;
 mod random;
 mod shapes;
 mod spoil;
+mod sum;
 mod tally;
 mod texts;
 mod trap;

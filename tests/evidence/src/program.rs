@@ -1,10 +1,10 @@
 //! The two programs that are compared, each as a table of its functions.
 use crate::library;
-use second::Refused;
+use second::{Ordered, Refused};
 
 pub type Levels = fn(&[u8], u8, u8, &mut [u8]) -> Result<u8, Refused>;
-pub type OrderLine = fn(&[u8], &[u8], u8, usize, usize, &mut [u16]) -> Result<usize, Refused>;
-pub type OrderLines = fn(&[u8], &[u8], u8, &[u16], &mut [u16]) -> Result<usize, Refused>;
+pub type OrderLine = fn(&[u8], &[u8], u8, usize, usize, &mut [u16]) -> Result<Ordered, Refused>;
+pub type OrderLines = fn(&[u8], &[u8], u8, &[u16], &mut [u16]) -> Result<Ordered, Refused>;
 pub type Marks = fn(&[u8], &[u8], &mut [u16]) -> Result<usize, Refused>;
 
 pub struct Program {

@@ -1,6 +1,7 @@
-//! Random paragraphs, lines, levels and bad input: both programs on each, and the law on pairs on each order.
+//! Random paragraphs, lines, levels and bad input: both programs on each, and the law on pairs and the law of the
+//! sum on each order.
 use crate::call::{Input, Job, JOBS};
-use crate::classes::is_removed;
+use crate::classes::{is_removed, LONGEST};
 use crate::compare::{compare, Outcome};
 use crate::generator::Generator;
 use crate::tally::Tally;
@@ -10,6 +11,8 @@ use std::time::{Duration, Instant};
 const BETWEEN_PROGRESS_LINES: Duration = Duration::from_secs(30);
 /// One case in so many has a long text too.
 const LONG_TEXTS: usize = 10;
+/// One case in so many has a long paragraph at high levels too.
+const HIGH_LEVELS: usize = 500;
 
 pub struct Options {
     pub seed: u64,
@@ -34,12 +37,13 @@ pub fn run(options: &Options) -> bool {
     each_case(options, &mut tally, |tally, case| Case::new(tally, options.seed, case).run());
     println!(
         "random: seed {}: {} paragraphs, {} calls of each program, {} differences; \
-         Base found none {} times; refusals 1 to 10 met: {}",
+         Base found none {} times; {}; refusals 1 to 10 met: {}",
         options.seed,
         options.count,
         tally.calls,
         tally.differences,
         tally.none_found,
+        tally.reversals_met(),
         tally.refusals_met(1..=10)
     );
     tally.differences == 0
@@ -68,6 +72,9 @@ impl Case<'_> {
         input.base = self.random.byte_between(0, 1);
         self.orders(&input);
         self.refusals(input);
+        if self.random.one_in(HIGH_LEVELS) {
+            self.many_reversals();
+        }
     }
 
     fn compare(&mut self, job: Job, input: &Input) -> Outcome {
@@ -108,38 +115,43 @@ impl Case<'_> {
             ..Input::default()
         };
         let resolved = self.compare(Job::Resolve, &input);
-        input.base = resolved.answer.map_or(0, |base| base as u8);
+        input.base = resolved.answer.map_or(0, |base| base.value as u8);
         input.levels = resolved.levels.into();
         input
     }
 
+    /// Long lines of which nearly all positions are reversed many times.
+    fn many_reversals(&mut self) {
+        let length = self.random.between(LONGEST / 2, LONGEST);
+        let classes = shapes::paragraph_of(&mut self.random, length);
+        let mut input = self.resolved(classes);
+        input.levels = shapes::high_levels(&mut self.random, &input.classes).into();
+        self.orders(&input);
+    }
+
     /// Both forms of Order, and the law on what the library wrote.
     fn orders(&mut self, input: &Input) {
-        let line = self.compare(Job::OrderLine, input);
-        let lines = self.compare(Job::OrderLines, input);
-        let whole_lines: Vec<usize> = input.ends.iter().map(|&end| usize::from(end)).collect();
-        if !self.law_holds(input, input.from, &[input.to], &line)
-            || !self.law_holds(input, 0, &whole_lines, &lines)
-        {
-            self.tally.differ(|| format!("{}the law on pairs\n{input}\n  {line:?}\n  {lines:?}", self.name));
+        for job in [Job::OrderLine, Job::OrderLines] {
+            let outcome = self.compare(job, input);
+            if !self.law_holds(job, input, &outcome) {
+                self.tally.differ(|| format!("{}the law on pairs\n{input}\n  {outcome:?}", self.name));
+            }
         }
     }
 
-    /// The law on each of the lines that begin at `from` and end at `ends`, whose orders follow each other.
-    fn law_holds(&mut self, input: &Input, mut from: usize, ends: &[usize], outcome: &Outcome) -> bool {
+    /// The law on each of the job's lines, whose orders follow each other.
+    fn law_holds(&mut self, job: Job, input: &Input, outcome: &Outcome) -> bool {
         let mut rest = match outcome.answer {
-            Ok(count) if count <= outcome.order.len() => &outcome.order[..count],
+            Ok(answer) if answer.value <= outcome.order.len() => &outcome.order[..answer.value],
             _ => return false,
         };
-        for &to in ends {
-            let levels = second::line_levels(&input.classes, &input.levels, input.base, from, to);
+        for (from, to) in input.lines(job) {
             let kept = input.classes[from..to].iter().filter(|&&class| !is_removed(class));
-            let count = kept.count().min(rest.len());
-            let (order, later) = rest.split_at(count);
-            if !law::holds(&mut self.random, &levels, from, order) {
+            let (order, later) = rest.split_at(kept.count().min(rest.len()));
+            if !law::holds(&mut self.random, &input.line_levels((from, to)), from, order) {
                 return false;
             }
-            (from, rest) = (to, later);
+            rest = later;
         }
         rest.is_empty()
     }

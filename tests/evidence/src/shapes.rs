@@ -115,6 +115,17 @@ pub fn levels(random: &mut Generator, classes: &[u8]) -> Vec<u8> {
     classes.iter().map(level).collect()
 }
 
+/// The highest level on all kept positions but a few: a long line then counts more reversals than 16 bits hold.
+pub fn high_levels(random: &mut Generator, classes: &[u8]) -> Vec<u8> {
+    let rarity = random.pick(&[20, 200, LONGEST]);
+    let level = |&class: &u8| match is_removed(class) {
+        true => REMOVED_LEVEL,
+        false if random.one_in(rarity) => random.byte_between(0, HIGHEST_LEVEL),
+        false => HIGHEST_LEVEL,
+    };
+    classes.iter().map(level).collect()
+}
+
 /// Line ends that rise to the length: none but the last, a few, or all.
 pub fn ends(random: &mut Generator, length: usize) -> Vec<u16> {
     let rarity = random.pick(&[1, 2, 5, 20, LONGEST]);

@@ -6,9 +6,10 @@
 //! document 002) and from document 01 alone, before and without sight of the
 //! library's code and definitions. The marks were written from source documents
 //! 001 and 002 and from what ticket 14 asks, class 19, CR, from what ticket 4
-//! asks, and the default from what ticket 3 asks, each in the ticket's own words
-//! and in a longer telling, without sight of the library's code and definitions
-//! too. It shares no code, no table and no definition with that library.
+//! asks, the default from what ticket 3 asks, and the count of the reversals from
+//! what ticket 6 asks, each in the ticket's own words and in a longer telling,
+//! without sight of the library's code and definitions too. It shares no code,
+//! no table and no definition with that library.
 //!
 //! How it is laid out: one function for each rule, named after the rule, with
 //! the rule restated above it. Everything is a plain loop over a `Vec`; speed
@@ -20,7 +21,7 @@
 //! - `weak`: W1 to W7
 //! - `neutral`: N1 and N2
 //! - `implicit`: I1 and I2
-//! - `line`: L1 and L2
+//! - `line`: L1, and L2 with the count of what it reverses
 //! - `marks`: R1 to R3, and steps a to c of the marks
 //! - `checks`: the refusals 1 to 10 and 16
 
@@ -42,6 +43,15 @@ use explicit::Position;
 
 /// A refusal: its number (1 to 10 or 16) and its place.
 pub type Refused = (u8, usize);
+
+/// What Order answers.
+#[derive(Clone, Copy, Debug, PartialEq, Eq)]
+pub struct Ordered {
+    /// How many places it wrote.
+    pub placed: usize,
+    /// How many positions were reversed, added over all passes of all lines.
+    pub reversed: usize,
+}
 
 /// The length of the first paragraph of `classes`, its B, CR or CR B included.
 pub fn cut(classes: &[u8]) -> Result<usize, Refused> {
@@ -100,7 +110,7 @@ pub fn resolve_levels(
 }
 
 /// Writes the display order of the line `from..to`; answers how many places it
-/// wrote.
+/// wrote and how many positions were reversed.
 pub fn order_line(
     classes: &[u8],
     levels: &[u8],
@@ -108,37 +118,45 @@ pub fn order_line(
     from: usize,
     to: usize,
     order: &mut [u16],
-) -> Result<usize, Refused> {
+) -> Result<Ordered, Refused> {
     checks::check_lent(classes, levels, base)?;
     checks::check_line(classes, from, to)?;
     checks::check_order_room(to - from, order)?;
-    let places = display_of(classes, levels, base, from, to);
+    let mut places = Vec::new();
+    let reversed = display_line(classes, levels, base, from, to, &mut places);
     write_order(&places, order);
-    Ok(places.len())
+    Ok(Ordered {
+        placed: places.len(),
+        reversed,
+    })
 }
 
 /// Writes the display orders of all lines, one after the other; answers how
-/// many places it wrote. A line runs from the end before it (at first 0) to
-/// its own end.
+/// many places it wrote and how many positions were reversed on all lines. A
+/// line runs from the end before it (at first 0) to its own end.
 pub fn order_lines(
     classes: &[u8],
     levels: &[u8],
     base: u8,
     ends: &[u16],
     order: &mut [u16],
-) -> Result<usize, Refused> {
+) -> Result<Ordered, Refused> {
     checks::check_lent(classes, levels, base)?;
     checks::check_ends(classes, ends)?;
     checks::check_order_room(classes.len(), order)?;
     let mut places = Vec::new();
+    let mut reversed = 0;
     let mut from = 0;
     for &end in ends {
         let to = usize::from(end);
-        places.extend(display_of(classes, levels, base, from, to));
+        reversed += display_line(classes, levels, base, from, to, &mut places);
         from = to;
     }
     write_order(&places, order);
-    Ok(places.len())
+    Ok(Ordered {
+        placed: places.len(),
+        reversed,
+    })
 }
 
 /// The levels of the line `from..to` after L1, one for each position of the
@@ -193,8 +211,16 @@ fn resolve_run(kept: &mut [Position], run: &runs::Run) {
     }
 }
 
-/// L1, then L2 on the positions of the line that are kept.
-fn display_of(classes: &[u8], levels: &[u8], base: u8, from: usize, to: usize) -> Vec<usize> {
+/// L1, then L2 on the positions of the line that are kept; their places go
+/// after those of the lines before. Answers how many L2 reversed.
+fn display_line(
+    classes: &[u8],
+    levels: &[u8],
+    base: u8,
+    from: usize,
+    to: usize,
+    places: &mut Vec<usize>,
+) -> usize {
     let reset = line::l1(classes, levels, base, from, to);
     let mut cells = Vec::new();
     for place in from..to {
@@ -205,8 +231,9 @@ fn display_of(classes: &[u8], levels: &[u8], base: u8, from: usize, to: usize) -
             });
         }
     }
-    line::l2(&mut cells);
-    cells.iter().map(|cell| cell.place).collect()
+    let reversed = line::l2(&mut cells);
+    places.extend(cells.iter().map(|cell| cell.place));
+    reversed
 }
 
 /// The levels of all `length` positions: those of the kept ones, 255 elsewhere.

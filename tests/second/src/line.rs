@@ -45,7 +45,9 @@ fn trails(classes: &[u8], place: usize, to: usize) -> bool {
 /// L2: from the highest level on the line down to the lowest odd level on it,
 /// one pass for each number whether found on the line or not, reverse every
 /// longest stretch at that level or above. Without an odd level, no pass.
-pub fn l2(cells: &mut [Cell]) {
+/// Answers how many positions were reversed, added over all passes.
+pub fn l2(cells: &mut [Cell]) -> usize {
+    let mut reversed = 0;
     let highest = cells.iter().map(|cell| cell.level).max();
     let lowest_odd = cells
         .iter()
@@ -55,14 +57,17 @@ pub fn l2(cells: &mut [Cell]) {
     if let (Some(highest), Some(lowest_odd)) = (highest, lowest_odd) {
         let mut level = highest;
         while level >= lowest_odd {
-            reverse_from_level(cells, level);
+            reversed += reverse_from_level(cells, level);
             level -= 1;
         }
     }
+    reversed
 }
 
-/// One pass of L2.
-fn reverse_from_level(cells: &mut [Cell], level: u8) {
+/// One pass of L2. Answers how many positions it reversed; a stretch of one
+/// counts as one.
+fn reverse_from_level(cells: &mut [Cell], level: u8) -> usize {
+    let mut reversed = 0;
     let mut start = 0;
     while start < cells.len() {
         if cells[start].level < level {
@@ -74,6 +79,8 @@ fn reverse_from_level(cells: &mut [Cell], level: u8) {
             end += 1;
         }
         cells[start..end].reverse();
+        reversed += end - start;
         start = end;
     }
+    reversed
 }

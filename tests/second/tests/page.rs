@@ -1,12 +1,14 @@
 //! Document 01 as tests: the proof table and other checks, the edges, the
 //! plausible errors, and the cut; in parts of their own the refusals, the
-//! chapter's examples, class 19 of ticket 4, and the default of ticket 3.
+//! chapter's examples, class 19 of ticket 4, the default of ticket 3, and the
+//! count of ticket 6.
 
 mod chapter;
 mod common;
 mod fallback;
 mod newline;
 mod refusals;
+mod reversals;
 
 use common::{classes, explicit, levels, line, lines, places, resolve};
 use second::{base, cut, cut_part, line_levels, resolve_levels};

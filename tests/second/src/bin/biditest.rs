@@ -204,7 +204,7 @@ fn run_case(classes: &[u8], request: u8) -> Result<(Vec<u8>, Vec<u16>), second::
     let mut levels = vec![0; length];
     let base = resolve_levels(classes, request, DEFAULT, &mut levels)?;
     let mut order = vec![0; length];
-    let count = order_line(classes, &levels, base, 0, length, &mut order)?;
-    order.truncate(count);
+    let ordered = order_line(classes, &levels, base, 0, length, &mut order)?;
+    order.truncate(ordered.placed);
     Ok((line_levels(classes, &levels, base, 0, length), order))
 }

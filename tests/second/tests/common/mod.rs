@@ -1,7 +1,7 @@
 //! What the tests have in common: reading classes and levels from words, and
 //! calls whose buffers are longer than needed and are looked at afterwards.
 
-use second::{explicit_levels, order_line, order_lines, resolve_levels};
+use second::{explicit_levels, order_line, order_lines, resolve_levels, Ordered};
 
 /// What an untouched level slot holds in these tests; no level, and not 255.
 pub const LEVEL_MARK: u8 = 177;
@@ -74,16 +74,37 @@ pub fn resolve_or(classes: &[u8], request: u8, fallback: u8) -> (u8, Vec<u8>) {
 
 /// The order of one line.
 pub fn line(classes: &[u8], levels: &[u8], base: u8, from: usize, to: usize) -> Vec<u16> {
-    let mut buffer = vec![ORDER_MARK; to - from + 3];
-    let count = order_line(classes, levels, base, from, to, &mut buffer).expect("accepted");
-    written_places(buffer, count)
+    line_counted(classes, levels, base, from, to).0
 }
 
 /// The orders of all lines.
 pub fn lines(classes: &[u8], levels: &[u8], base: u8, ends: &[u16]) -> Vec<u16> {
+    lines_counted(classes, levels, base, ends).0
+}
+
+/// The order of one line, and how many positions were reversed.
+pub fn line_counted(
+    classes: &[u8],
+    levels: &[u8],
+    base: u8,
+    from: usize,
+    to: usize,
+) -> (Vec<u16>, usize) {
+    let mut buffer = vec![ORDER_MARK; to - from + 3];
+    let ordered = order_line(classes, levels, base, from, to, &mut buffer);
+    counted(buffer, ordered.expect("accepted"))
+}
+
+/// The orders of all lines, and how many positions were reversed on them.
+pub fn lines_counted(classes: &[u8], levels: &[u8], base: u8, ends: &[u16]) -> (Vec<u16>, usize) {
     let mut buffer = vec![ORDER_MARK; classes.len() + 3];
-    let count = order_lines(classes, levels, base, ends, &mut buffer).expect("accepted");
-    written_places(buffer, count)
+    let ordered = order_lines(classes, levels, base, ends, &mut buffer);
+    counted(buffer, ordered.expect("accepted"))
+}
+
+/// The places that were written, and the count beside them.
+fn counted(buffer: Vec<u16>, ordered: Ordered) -> (Vec<u16>, usize) {
+    (written_places(buffer, ordered.placed), ordered.reversed)
 }
 
 /// The first `count` levels, after seeing that all of them and none after them

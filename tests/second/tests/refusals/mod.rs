@@ -2,7 +2,7 @@
 //! stay as they were. (The cut's refusals are among the tests of the page.)
 
 use crate::common::{classes, levels, LEVEL_MARK, ORDER_MARK};
-use second::{base, explicit_levels, order_line, order_lines, resolve_levels, Refused};
+use second::{base, explicit_levels, order_line, order_lines, resolve_levels, Ordered, Refused};
 
 /// The refusal of Explicit and of Resolve, which must be the same one, with a
 /// level buffer of `room` places that neither may alter.
@@ -45,6 +45,11 @@ fn refused_lines(text: &[u8], lent: &[u8], base: u8, ends: &[u16], room: usize) 
         "altered order"
     );
     found.expect_err("refused")
+}
+
+/// An accepted order of so many places and reversed positions.
+fn ordered(placed: usize, reversed: usize) -> Result<Ordered, Refused> {
+    Ok(Ordered { placed, reversed })
 }
 
 /// A fault of the classes is refused alike by all jobs but the cut, whether
@@ -178,7 +183,10 @@ fn no_7_lent_levels() {
     }
     let mut order = [0; 5];
     let highest = levels("62 - 62 - 62");
-    assert_eq!(order_line(&text, &highest, 0, 0, 5, &mut order), Ok(3));
+    assert_eq!(
+        order_line(&text, &highest, 0, 0, 5, &mut order),
+        ordered(3, 0)
+    );
 }
 
 #[test]
@@ -188,14 +196,18 @@ fn no_7_asks_255_of_every_removed_class() {
         assert_eq!(refused_line(&text, &[0], 0, (0, 1), 1), (7, 0), "{name}");
         assert_eq!(
             order_line(&text, &[255], 0, 0, 1, &mut [0]),
-            Ok(0),
+            ordered(0, 0),
             "{name}"
         );
     }
     for name in "L R AL EN ES ET AN CS NSM B S WS ON CR".split(' ') {
         let text = classes(name);
         assert_eq!(refused_line(&text, &[255], 0, (0, 1), 1), (7, 0), "{name}");
-        assert_eq!(order_line(&text, &[0], 0, 0, 1, &mut [0]), Ok(1), "{name}");
+        assert_eq!(
+            order_line(&text, &[0], 0, 0, 1, &mut [0]),
+            ordered(1, 0),
+            "{name}"
+        );
     }
 }
 
@@ -233,7 +245,7 @@ fn no_8_line() {
         );
     }
     assert_eq!(refused_line(&text, &lent, 0, (0, usize::MAX), 9), (8, 0));
-    assert_eq!(order_line(&text, &lent, 0, 2, 3, &mut [0]), Ok(1));
+    assert_eq!(order_line(&text, &lent, 0, 2, 3, &mut [0]), ordered(1, 0));
 }
 
 #[test]
@@ -251,7 +263,10 @@ fn no_9_too_little_room_for_one_line() {
     assert_eq!(refused_line(&text, &lent, 0, (0, 4), 3), (9, 0));
     assert_eq!(refused_line(&text, &lent, 0, (1, 3), 1), (9, 0));
     assert_eq!(refused_line(&text, &lent, 0, (1, 2), 0), (9, 0));
-    assert_eq!(order_line(&text, &lent, 0, 1, 3, &mut [0; 2]), Ok(1));
+    assert_eq!(
+        order_line(&text, &lent, 0, 1, 3, &mut [0; 2]),
+        ordered(1, 1)
+    );
 }
 
 #[test]
@@ -261,7 +276,10 @@ fn no_9_too_little_room_for_all_lines() {
     assert_eq!(refused_lines(&text, &lent, 0, &[4], 3), (9, 0));
     assert_eq!(refused_lines(&text, &lent, 0, &[2, 4], 3), (9, 0));
     assert_eq!(refused_lines(&text, &lent, 0, &[2, 4], 0), (9, 0));
-    assert_eq!(order_lines(&text, &lent, 0, &[2, 4], &mut [0; 4]), Ok(3));
+    assert_eq!(
+        order_lines(&text, &lent, 0, &[2, 4], &mut [0; 4]),
+        ordered(3, 1)
+    );
 }
 
 #[test]
@@ -285,7 +303,7 @@ fn no_10_ends() {
     for ends in [&[3][..], &[1, 3], &[1, 2, 3]] {
         assert_eq!(
             order_lines(&text, &lent, 0, ends, &mut [0; 3]),
-            Ok(3),
+            ordered(3, 1),
             "{ends:?}"
         );
     }
