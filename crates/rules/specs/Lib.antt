@@ -8,11 +8,12 @@
 --   W1 to W7           Weak, each under its name
 --   N1, N2             Neutral, each under its name
 --   I1, I2             Implicit, each under its name
---   L1, L2             Line, each under its name
+--   L1, L2             Line, each under its name; what the passes of L2 reverse, counted, in Reversals
 --   R1 to R3           Canonical: R1 is its p, R2 and R3 under their names
 --   steps 2a to 2c     Stacking, each under its name; step 2 is for all stretches of a text
--- Document 02 moves some of this: class CR and the pair (Classes.CR, Paragraph.isPair, Refusals.mayEnd), and the default of a
--- base that the text does not decide (Paragraph.orElse, baseOf, Refusals.checkRequest).
+-- Document 02 moves some of this: class CR and the pair (Classes.CR, Paragraph.isPair, Refusals.mayEnd), the default of a
+-- base that the text does not decide (Paragraph.orElse, baseOf, Refusals.checkRequest), and the count that Order answers
+-- beside how many positions it placed (Reversals, Jobs.Placing).
 -- The words on lists that these are written in (if, over, part, stretches and the like) are in laws/specs.
 -- Refusals has the eleven refusals and each job's order of checks, Jobs what each job answers and leaves in its buffer,
 -- Table the eleven rows of document 01 that are proved, Examples the worked drawing orders.
