@@ -118,7 +118,7 @@ typedef struct melvorash_answer {
  * L2 reversed, added over all passes: in each pass every position of every stretch that it reverses, a stretch
  * of one counted as one. That is the sum, over the kept positions, of the level on the line less the lowest
  * odd level there plus 1, where that is positive. It is 0 with no odd level, and at most
- * MELVORASH_HIGHEST_LEVEL times value, so it may not fit 16 bits. Refused, value and reversed are 0.
+ * MELVORASH_HIGHEST_LEVEL times value, so it can be too large for 16 bits. Refused, value and reversed are 0.
  */
 typedef struct melvorash_order_answer {
     size_t refusal;

@@ -70,7 +70,7 @@ impl Picture {
     }
 }
 
-/// One pass of rule L2: every longest stretch at the level or above is reversed. How many positions that are.
+/// One pass of rule L2: every longest stretch at the level or above is reversed. Answers how many positions those are.
 fn pass(order: &mut [u16], levels: &[u8], level: u8) -> usize {
     let mut reversed = 0;
     for stretch in order.split_mut(|&position| levels[position as usize] < level) {

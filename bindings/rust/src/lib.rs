@@ -30,7 +30,7 @@ pub use class::Class;
 pub use ordered::Ordered;
 pub use refusal::Refusal;
 
-use refusal::{ordered, outcome};
+use refusal::{order_outcome, outcome};
 
 /// The request for base level 0.
 pub const LEFT_TO_RIGHT: u8 = 0;
@@ -118,7 +118,7 @@ pub fn order_line(
     to: usize,
     order: &mut [u16],
 ) -> Result<Ordered, Refusal> {
-    ordered(boundary::order_line(classes, levels, base, from, to, order))
+    order_outcome(boundary::order_line(classes, levels, base, from, to, order))
 }
 
 /// The same for all lines: `ends` holds the position after each line's last, the last of them the
@@ -130,7 +130,7 @@ pub fn order_lines(
     ends: &[u16],
     order: &mut [u16],
 ) -> Result<Ordered, Refusal> {
-    ordered(boundary::order_lines(classes, levels, base, ends, order))
+    order_outcome(boundary::order_lines(classes, levels, base, ends, order))
 }
 
 /// Writes the positions of decomposed characters in the order in which their marks are drawn, from the inside

@@ -89,7 +89,7 @@ pub(crate) fn outcome(answer: Answer) -> Result<usize, Refusal> {
 }
 
 /// The same for an order, which has two values.
-pub(crate) fn ordered(answer: OrderAnswer) -> Result<Ordered, Refusal> {
+pub(crate) fn order_outcome(answer: OrderAnswer) -> Result<Ordered, Refusal> {
     let values = Ordered { placed: answer.value, reversed: answer.reversed };
     told(answer.refusal, answer.place, values)
 }

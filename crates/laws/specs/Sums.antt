@@ -1,4 +1,4 @@
--- The sum of a number that each of a list has.
+-- The sum over a list of a number for each of its elements.
 use Prim.Native.Nat.{ℕ, _+_}
 use mathlib.Core.List.{List, [], _∷_}
 

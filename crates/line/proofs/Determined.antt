@@ -7,4 +7,4 @@ use Rattle.line.specs.Ordered.{Ordered}
 use Rattle.line.specs.declared.Placed.{Placed}
 
 pub ordered-determined : {wanted : List ℕ} {turned : ℕ} {entry : List ℕ} {r s : Placed} {x y : List ℕ} → Ordered wanted turned entry r x → Ordered wanted turned entry s y → (r ≡ s) × (x ≡ y)
-ordered-determined p q = ((λ j. record { count = determined (p .counted) (q .counted) j; reversed = determined (p .reversed) (q .reversed) j }), determined (p .order) (q .order))
+ordered-determined p q = ((λ j. record { count = determined (p .placed) (q .placed) j; reversed = determined (p .reversed) (q .reversed) j }), determined (p .order) (q .order))

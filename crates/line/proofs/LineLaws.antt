@@ -78,7 +78,7 @@ module _ (base from : ℕ) (cs ls work work₁ work₂ order order₂ : List ℕ
       let long : length (positionsOf (L2 xs)) ≡ length (positionsOf xs) = many ∙ sym (length-positions xs) in
       let in-bytes : highest xs < 256 = subst (λ (n : ℕ). n < 256) top-is byte in
       record {
-        counted = line-gathered .count ∙ sym many;
+        placed = line-gathered .count ∙ sym many;
         reversed = er ∙ (λ j. slots (lowest-is j) (line-levels j)) ∙ reverses-of-bytes xs in-bytes;
         order = eo ∙ (λ j. passesBy (top-is j) (lowest-is j) (line-levels j) (line-gathered .placed j))
             ∙ passes-positions (highest xs) (lowestOdd 255 xs) xs (drop (length (positionsOf xs)) order)
@@ -165,15 +165,15 @@ module _ (base : ℕ) (cs ls ends order₀ order : List ℕ) (from count reverse
     -- and few enough are reversed that their number fits
     pub sums-fit : (base′ : ℕ) {entry exit : List ℕ} {placed : Placed} → Ordered (lineOrder base′ cs ls from to) (lineReversed base′ cs ls from to) entry placed exit → (count + placed .count ≤ to) × (reversed ≤ 255 * to) × (reversed + placed .reversed ≤ 255 * to)
     sums-fit base′ {placed = placed} o =
-        let n : count + placed .count ≤ to = count-next base′ (placed .count) (o .counted) in
-        (n, omega (arith, l .few), omega (arith, l .few, o .few, o .reversed, o .counted))
+        let n : count + placed .count ≤ to = count-next base′ (placed .count) (o .placed) in
+        (n, omega (arith, l .few), omega (arith, l .few, o .few, o .reversed, o .placed))
 
     pub lines-next : (placed : Placed) (part′ order′ : List ℕ) → length cs ≤ length order₀ → Ordered (lineOrder base cs ls from to) (lineReversed base cs ls from to) (take (length order - count) (drop count order)) placed part′ → order′ ≡ putMid count (length order - count) order part′ → Lines base cs ls ends order₀ order′ to (count + placed .count) (reversed + placed .reversed) (i + 1)
     lines-next placed part′ order′ room o e =
         let w = next-line in
         let r : ℕ = placed .count in
         let m : length order ≡ length order₀ = l .filled .long in
-        let n : r ≡ length (lineOrder base cs ls from to) = o .counted in
+        let n : r ≡ length (lineOrder base cs ls from to) = o .placed in
         let within : count + r ≤ to = count-next base r n in
         let line : List ℕ = lineOrder base cs ls from to in
         let part-is : part′ ≡ line ++ drop (count + r) order =
@@ -207,4 +207,4 @@ module _ (base : ℕ) (cs ls ends order₀ order : List ℕ) (from count reverse
       (subst (λ (es : List ℕ). Filled (allOrders base cs ls 0 ends) order₀ order count (allOrders base cs ls from es)) (drop-of-length-le ends h) (l .filled)) in
       let none : allReversed base cs ls from (drop i ends) ≡ 0 = ap (allReversed base cs ls from) (drop-of-length-le ends h) in
       let all : reversed ≡ allReversed base cs ls 0 ends = omega (arith, l .added) in
-      record { counted = d .1; reversed = all; order = d .0; few = omega (arith, l .few, d .1) }
+      record { placed = d .1; reversed = all; order = d .0; few = omega (arith, l .few, d .1) }

@@ -8,8 +8,8 @@ use Rattle.laws.specs.Parts.{over}
 use Rattle.line.specs.declared.Placed.{Placed}
 
 pub record Ordered (wanted : List ℕ) (turned : ℕ) (entry : List ℕ) (r : Placed) (exit : List ℕ) : Type 0 where
-  pub counted : r .count ≡ length wanted
+  pub placed : r .count ≡ length wanted
   pub reversed : r .reversed ≡ turned
   pub order : exit ≡ over wanted entry
-  -- a level is a byte: so the counts of several lines can be added up
+  -- no level is above 255, so the sum over the lines fits its number
   pub few : turned ≤ 255 * length wanted

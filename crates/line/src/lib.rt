@@ -37,7 +37,7 @@ fn order_with(
     let packed = &work[..count];
     let top = level_range::highest_level(packed);
     let lowest = level_range::lowest_odd_level(packed);
-    // Without an odd level memory order stands.
+    // Without an odd level memory order stands, and nothing is reversed.
     if top < lowest {
         return Placed { count, reversed: 0 };
     }

@@ -19,7 +19,7 @@ use Rattle.pairwise.proofs.Lines.{each-displayed}
 use Rattle.line.specs.Ordered.{Ordered}
 use Rattle.line.specs.declared.Placed.{Placed}
 use Rattle.melvorash.proofs.AnswerLaws.{leaves-refused, leaves-written}
-use Rattle.melvorash.specs.Answers.{Leaves, OrdersLine, OrdersLines}
+use Rattle.melvorash.specs.Answers.{placingOf, Leaves, OrdersLine, OrdersLines}
 
 orders-line : (cs levels : List ℕ) (base from to : ℕ) (order : List ℕ) (answer : Answer Placing) (after : List ℕ) → Leaves (lineAnswer cs levels base from to order) (lineBuffer cs levels base from to order) answer after → OrdersLine cs levels base from to order answer after
 unfolding lineAnswer lineBuffer lineReversed
@@ -58,11 +58,8 @@ orders-lines cs levels base ends order answer after p =
     }
 
 -- what the lines' work answers, on the page
-abbrev pub placingOf : Placed → Placing
-placingOf r = record { placed = r .count; reversed = r .reversed }
-
 placing-is : {wanted : List ℕ} {turned : ℕ} {entry : List ℕ} (r : Placed) {exit : List ℕ} → Ordered wanted turned entry r exit → placingOf r ≡ record { placed = length wanted; reversed = turned }
-placing-is r o = λ j. record { placed = o .counted j; reversed = o .reversed j }
+placing-is r o = λ j. record { placed = o .placed j; reversed = o .reversed j }
 
 -- ---- the two returns of each form
 module _ (cs levels : List ℕ) (base from to : ℕ) (order : List ℕ) where

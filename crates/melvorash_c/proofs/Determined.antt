@@ -23,7 +23,7 @@ module _ {A R : Type 0} (numbers : Answer A → R) (read : R → Answer A) where
   pub answer-determined : {wanted : Answer A} {r s : R} → Exports numbers read (λ a. a ≡ wanted) r → Exports numbers read (λ a. a ≡ wanted) s → r ≡ s
   answer-determined p q = same-numbers (p .exact) (q .exact) (p .job) (q .job)
 
-  -- Explicit and Resolve
+  -- Explicit and Resolve; Order below, by its part `leaves`
   pub leaves-determined : {wanted : Answer A} {left : List ℕ} {r s : R} {x y : List ℕ} → Exports numbers read (λ a. Leaves wanted left a x) r → Exports numbers read (λ a. Leaves wanted left a y) s → (r ≡ s) × (x ≡ y)
   leaves-determined p q = (same-numbers (p .exact) (q .exact) (p .job .told) (q .job .told), determined (p .job .buffer) (q .job .buffer))
 

@@ -78,7 +78,8 @@ pub extern "C" fn melvorash_order_line(
     of_order(line)
 }
 
-// The positions of all lines, each line's following the last one's, and the same of all of them.
+// The positions of all lines, each line's following the last one's, how many, and how many the passes reversed, both added
+// over the lines.
 #[no_mangle]
 pub extern "C" fn melvorash_order_lines(
     classes: &[u8],

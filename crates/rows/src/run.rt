@@ -1,4 +1,5 @@
-// The jobs of a row, called on what it lends as they are called from C, so that every answer is numbers: an order's four.
+// The jobs of a row, called on what it lends as they are called from C, so that every answer is three numbers,
+// or four for an order.
 use crate::tell;
 use melvorash_c::Answer;
 use melvorash_c::OrderAnswer;
@@ -43,7 +44,7 @@ fn called(
     with_none_reversed(other(job, classes, levels, order, asked))
 }
 
-// An answer of three numbers beside those of four.
+// A job that orders no line has no count: 0 stands for it.
 fn with_none_reversed(answer: Answer) -> OrderAnswer {
     OrderAnswer {
         refusal: answer.refusal,

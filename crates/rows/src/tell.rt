@@ -33,7 +33,7 @@ pub(crate) fn answer(
     (answer.value % 256) as u8
 }
 
-// A refusal has no other number.
+// A refusal's value and count are 0; any other is shown.
 fn stray(number: usize) {
     if number > 0 {
         say::named(b", with", number);
@@ -114,7 +114,7 @@ fn part(part: &[u8]) {
     say::bytes(part, 4, NO_DASH);
 }
 
-// The positions of an order, or how many there are and the last of the most.
+// The positions of an order; for T how many there are, the last place and the one after.
 fn placed(job: u8, count: usize, order: &[u16]) {
     if job == b'T' {
         say::named(b" ordered", count);

@@ -110,7 +110,7 @@ module _ (limit base : ℕ) (cs ls : List ℕ) (low : base ≤ limit) (fits : At
       (kept-items _ from (part from to cs) (lineLevels base cs ls from to)
       (kept-L1 _ base (part from to cs) (part from to ls) low (kept-take _ (to - from) (drop from cs) (drop from ls) (kept-drop _ from cs ls fits))))
 
-  -- and so no position is reversed more often than it says
+  -- and so no more are reversed than the limit times the positions
   pub line-most : (from to : ℕ) → lineReversed base cs ls from to ≤ limit * length (lineOrder base cs ls from to)
   unfolding lineReversed
   line-most from to =

@@ -83,7 +83,7 @@ counted xs =
           reverses-sum xs ∙ slots-none (lowestOdd (suc (highest xs)) xs) xs (omega arith);
     }
 
--- no position is reversed more often than the highest level says
+-- where no level is above a limit, no more are reversed than the limit times the positions
 pub reverses-most : (limit : ℕ) (xs : List Item) → highest xs ≤ limit → L2reverses xs ≤ limit * length xs
 unfolding slots
 reverses-most limit xs high =

@@ -10,13 +10,13 @@ use Rattle.laws.specs.Any.{anyOf}
 use Rattle.laws.specs.Sums.{sumOf}
 use Rattle.rules.specs.Line.{Item, levelsOf, pass, highest, lowestOdd, lineKept}
 
--- one pass: the same walk as `pass`. Where that puts the stretch under way down reversed, as many are counted as it has
+-- one pass: the same walk as `pass`; where that puts down the stretch it holds, the stretch's length is counted
 unfoldable pub passReverses : ℕ → List Item → List Item → ℕ
 passReverses level stretch [] = length stretch
 passReverses level stretch (x ∷ xs) =
     if leb level (x .level) then passReverses level (x ∷ stretch) xs else length stretch + passReverses level [] xs
 
--- the same passes as `passes`, one after the other, and what each of them reverses
+-- the same passes as `passes`, and what each of them reverses, added up
 unfoldable pub passesReverse : ℕ → ℕ → List Item → ℕ
 passesReverse zero lowest xs = 0
 passesReverse (suc level) lowest xs =
@@ -36,7 +36,7 @@ allReversed base cs ls from (to ∷ ends) = lineReversed base cs ls from to + al
 
 -- ---- what the count comes to, with no pass in it
 
--- the sum over levels of the level less the lowest odd one plus 1, where that is positive
+-- the sum over levels of the level less the lowest odd one plus 1, where that is positive (subtraction stops at 0)
 unfoldable pub slots : ℕ → List ℕ → ℕ
 slots lowest ls = sumOf (λ (l : ℕ). suc l - lowest) ls
 

@@ -1,4 +1,4 @@
-// How many positions the passes of reversal reverse, read off the levels: no pass is counted on the way.
+// How many positions the passes of reversal reverse, computed from the levels alone; the passes are not walked.
 ghost use mathlib.Core.Path.{_≡_};
 ghost use Prim.Native.Nat.{_-_, _≤_};
 ghost use lib.ListN.{length};
@@ -6,7 +6,7 @@ ghost use Rattle.rules.specs.Refusals.{longestParagraph};
 ghost use Rattle.rules.specs.Reversals.{slots};
 use places::Place;
 
-// By how much a level is above another, in the width of the sum that it is added to.
+// By how much a level is above another, 0 where it is not; in the width of the sum that it is added to.
 fn above(level: u8, other: u8) -> u32
     ensures { λ r. ⌜ r ≡ level - other ⌝ }
 {
