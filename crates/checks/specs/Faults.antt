@@ -1,6 +1,5 @@
 -- What is a fault of a class by itself, before what closes the paragraph: what is asked of all positions at once.
-use Rattle.std.specs.Prelude.{ℕ, ◌+◌, ◌-◌, Bool, ◌||◌, List, length, get_or, drop}
-use Rattle.laws.specs.Choice.{if◌then◌else◌}
+use Rattle.std.specs.Prelude.{ℕ, ◌+◌, ◌-◌, Bool, ◌||◌, List, length, get_or, drop, if◌then◌else◌}
 use Rattle.rules.specs.Classes.{is_unknown, is_paragraph_end}
 use Rattle.rules.specs.Paragraph.{is_pair}
 

@@ -1,5 +1,7 @@
 // The checks of a paragraph's classes, of a request for its levels and of a text with marks, made before anything is
 // written. Each answers what the definition of that check says, in the page's numbers and places.
+#![tactic(auto)]
+
 mod faults;
 
 ghost use Rattle.std.specs.Prelude.{◌≡◌};

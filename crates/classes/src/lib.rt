@@ -1,5 +1,7 @@
 // The classes by name, and each question that the rules ask of a class: one function for each test
 // of the definitions. Other code compares names; where it goes by their numbers, in a table or a range, a law says why.
+#![tactic(auto)]
+
 ghost use Rattle.std.specs.Prelude.{◌≡◌, ◌<◌, min};
 ghost use Rattle.rules.specs.Classes.{is_unknown, is_paragraph_end, is_opening, is_removed, is_strong, is_neutral, is_separator, is_blank, last_place, row_width};
 

@@ -1,5 +1,6 @@
 -- The explicit phase by its definitions alone: its equations, its lengths, and that no level of a kept position passes 61.
 -- Assumes nothing.
+use Rattle.std.specs.Prelude.{if◌then◌else◌}
 use Prim.Native.Nat.{ℕ, zero, suc, ◌≤◌, zero-le, suc-le-suc}
 use native.Mathlib.Omega.{arith}
 use mathlib.Core.Path.{◌≡◌, refl, ap}
@@ -8,7 +9,6 @@ use mathlib.Core.List.{List, [], ◌∷◌, tail}
 use borrow.Author.Tests.{leb-true}
 use lib.Dec.{eqb, leb}
 use lib.ListN.{length, get_or}
-use Rattle.laws.specs.Choice.{if◌then◌else◌}
 use Rattle.rules.specs.Classes.{L, R, LRE, LRO, RLE, RLO, PDF, is_removed, is_paragraph_end}
 use Rattle.rules.specs.Explicit.{State, Entry, valid, invalid, Verdict, opens_valid, opens_invalid, closes_valid, closes_invalid, closes_nothing, plain, neutral, X1, least_greater_odd, least_greater_even, opening, closing, X2, X3, X4, X5, X7, verdict, after, step, X6_level, level_here, type_here, explicit_levels, explicit_types, kept, highest_explicit}
 

@@ -1,5 +1,7 @@
 // Explicit levels and directions, rules X1 to X9: two walks along a paragraph. A kept position leaves the machine as it
 // is, so they step it at the removed ones alone.
+#![tactic(auto)]
+
 ghost use Rattle.std.specs.Prelude.{◌≡◌, ◌≤◌, length};
 ghost use Rattle.rules.specs.Explicit.{X1, explicit_levels};
 ghost use Rattle.laws.specs.Parts.{over};

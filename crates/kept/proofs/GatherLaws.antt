@@ -1,6 +1,7 @@
 -- The items of a line, one position at a time, and the two buffers that are filled with them; and all at once where
 -- nothing is removed.
 -- Assumes nothing.
+use Rattle.std.specs.Prelude.{if◌then◌else◌}
 use Prim.Native.Nat.{ℕ, suc, ◌+◌, ◌-◌, ◌≤◌, ◌<◌}
 use native.Mathlib.Omega.{arith}
 use mathlib.Core.Path.{◌≡◌, refl, sym, ap, subst, ◌∙◌}
@@ -8,7 +9,7 @@ use mathlib.Core.Bool.{true, false}
 use mathlib.Core.List.{List, [], ◌∷◌, ◌++◌}
 use lib.ListN.{length, get_or, take, drop, set, length-map, take-append-drop}
 use lib.Seq.{drop-length, length-take-le}
-use Rattle.laws.specs.Choice.{if◌then◌else◌, up_from}
+use Rattle.laws.specs.Choice.{up_from}
 use Rattle.rules.specs.Classes.{is_removed}
 use Rattle.laws.specs.Parts.{over}
 use Rattle.rules.specs.Line.{Item, items, positions_of, levels_of}

@@ -1,4 +1,6 @@
 // The kept positions of a line, in memory order, with their levels.
+#![tactic(auto)]
+
 ghost use Rattle.std.specs.Prelude.{◌≡◌, ◌+◌, ◌≤◌, length};
 ghost use Rattle.laws.specs.Choice.{up_from};
 ghost use Rattle.laws.specs.Parts.{over};

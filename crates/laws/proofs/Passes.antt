@@ -12,7 +12,7 @@ use mathlib.Core.List.{List, [], ◌∷◌, ◌++◌, map, append-nil, append_as
 use lib.ListN.{length, get_or, take, drop, set, replicate, length-set, length-drop, length-replicate, drop_of_length-le}
 use lib.Seq.{take_all, drop-nil, get_or-drop, drop-drop}
 use borrow.Rule.Slice.PartMut.{mid_of, put_mid, same_len_mid, mid_len}
-use Rattle.laws.specs.Choice.{if◌then◌else◌, head_or}
+use Rattle.laws.specs.Choice.{head_or}
 use Rattle.laws.specs.Stretches.{after_stretch, stretches, span}
 use Rattle.laws.proofs.Lists.{take_set_next, drop_next, drop_set_next, take_put_end}
 

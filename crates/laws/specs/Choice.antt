@@ -1,11 +1,6 @@
 -- The few words on truth values, numbers and lists that the rules are written in.
 use Rattle.std.specs.Prelude.{ℕ, zero, suc, ◌%◌, Bool, true, false, List, [], ◌∷◌, eqb}
 
-infix 5 if◌then◌else◌
-abbrev pub if◌then◌else◌ : {A : Type 0} → Bool → A → A → A
-if true then a else b = a
-if false then a else b = b
-
 abbrev pub is_odd : ℕ → Bool
 is_odd n = eqb (n % 2) 1
 

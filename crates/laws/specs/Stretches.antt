@@ -1,6 +1,5 @@
 -- Longest stretches of numbers that pass a test.
-use Rattle.std.specs.Prelude.{ℕ, suc, Bool, List, [], ◌∷◌}
-use Rattle.laws.specs.Choice.{if◌then◌else◌}
+use Rattle.std.specs.Prelude.{ℕ, suc, Bool, List, [], ◌∷◌, if◌then◌else◌}
 
 -- how many that pass the test come first
 unfoldable pub span : (ℕ → Bool) → List ℕ → ℕ

@@ -1,5 +1,6 @@
 -- What is read off a list of levels from its front on: the highest, the lowest and the lowest odd.
 -- Assumes nothing.
+use Rattle.std.specs.Prelude.{if◌then◌else◌}
 use Prim.Native.Nat.{ℕ, ◌+◌, ◌-◌, ◌*◌, ◌%◌, ◌≤◌, ◌<◌, max, min}
 use native.Mathlib.Omega.{arith}
 use mathlib.Core.Path.{◌≡◌, refl, sym, ap, ◌∙◌}
@@ -7,7 +8,7 @@ use mathlib.Core.Bool.{Bool, true, false}
 use mathlib.Core.List.{List, [], ◌∷◌}
 use lib.ListN.{length, get_or, drop, drop_of_length-le}
 use borrow.Author.Tests.{eqb-true, eqb-false}
-use Rattle.laws.specs.Choice.{if◌then◌else◌, is_odd}
+use Rattle.laws.specs.Choice.{is_odd}
 use Rattle.rules.specs.Line.{Item, highest, lowest_odd}
 use Rattle.laws.proofs.Lists.{drop_next}
 use Rattle.level_range.specs.Levels.{at_levels, lowest}

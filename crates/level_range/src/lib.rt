@@ -1,6 +1,8 @@
 // The highest and the lowest of a line's levels, and the lowest odd one.
-ghost use Rattle.std.specs.Prelude.{◌≡◌, max, min};
-ghost use Rattle.laws.specs.Choice.{if◌then◌else◌, is_odd};
+#![tactic(auto)]
+
+ghost use Rattle.std.specs.Prelude.{◌≡◌, max, min, if◌then◌else◌};
+ghost use Rattle.laws.specs.Choice.{is_odd};
 ghost use Rattle.rules.specs.Line.{highest, lowest_odd};
 ghost use Rattle.level_range.specs.Levels.{at_levels, lowest};
 

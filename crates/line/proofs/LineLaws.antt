@@ -1,5 +1,6 @@
 -- The order of one line from its reset, its kept positions and the passes; and of all lines, one after the other.
 -- Assumes nothing.
+use Rattle.std.specs.Prelude.{if◌then◌else◌}
 use Prim.Native.Nat.{ℕ, suc, ◌+◌, ◌-◌, ◌*◌, ◌≤◌, ◌<◌}
 use native.Mathlib.Omega.{arith}
 use mathlib.Core.Path.{◌≡◌, refl, sym, ap, subst, ◌∙◌}
@@ -8,7 +9,6 @@ use mathlib.Core.List.{List, [], ◌∷◌, ◌++◌, append_assoc, append-nil}
 use lib.ListN.{length, get_or, take, drop, length-append, length-drop, length-map, drop_of_length-le}
 use lib.Seq.{take_at, drop_at, drop-drop, length-take-le, take_all, drop-length}
 use borrow.Rule.Slice.PartMut.{put_mid, Post-is}
-use Rattle.laws.specs.Choice.{if◌then◌else◌}
 use Rattle.rules.specs.Classes.{is_removed}
 use Rattle.laws.specs.Parts.{over, part}
 use Rattle.rules.specs.Line.{Item, L1, L2, items, highest, lowest_odd, line_levels, line_kept, line_order, all_orders, positions_of, levels_of}

@@ -1,4 +1,6 @@
 // The order of one line and of all lines: the line's own reset (L1), its kept positions, then the passes of reversal (L2).
+#![tactic(auto)]
+
 ghost use Rattle.std.specs.Prelude.{◌≡◌, true, ◌+◌, ◌-◌, ◌≤◌, ◌<◌, length, get_or};
 ghost use Rattle.rules.specs.Line.{L2, positions_of, line_order, all_orders};
 ghost use Rattle.rules.specs.Refusals.{longest_paragraph, ends_rise_to};
@@ -9,7 +11,7 @@ ghost use Rattle.line.specs.Ordered.{Ordered};
 use places::Position;
 
 // What ordering did: how many positions it placed, and how many the passes reversed, added over all passes.
-#[derive(Drop)]
+#[derive(Clone, Copy)]
 pub struct Placed {
     pub count: usize,
     pub reversed: usize,

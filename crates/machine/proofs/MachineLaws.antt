@@ -1,4 +1,5 @@
 -- The machine's struct against the rules' state: what each way of stepping does, over plain lists. Assumes nothing.
+use Rattle.std.specs.Prelude.{if◌then◌else◌}
 use Prim.Native.Nat.{ℕ, zero, suc, ◌+◌, ◌-◌, ◌≤◌, ◌<◌, zero-le}
 use native.Mathlib.Numerals.{add-one}
 use native.Mathlib.Omega.{arith}
@@ -14,7 +15,7 @@ use Rattle.laws.proofs.Lists.{le_or_lt}
 use Rattle.rules.specs.Explicit.{State, Entry, valid, invalid, neutral, X1, after, opens_valid, opens_invalid, closes_valid, closes_invalid, closing, opening, plain, least_greater_odd, least_greater_even, X2, X3, X4, X5, X7, verdict, step, highest_explicit}
 use Rattle.laws.proofs.Passes.{by_test}
 use Rattle.rules.specs.Classes.{LRE, LRO, PDF, RLE, RLO, is_opening}
-use Rattle.laws.specs.Choice.{if◌then◌else◌, is_odd}
+use Rattle.laws.specs.Choice.{is_odd}
 use Rattle.rules.specs.Explicit as rules
 use Rattle.machine.specs.declared.Machine.{Machine}
 use Rattle.machine.specs.declared.Verdict.{Verdict}

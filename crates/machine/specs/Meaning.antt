@@ -1,6 +1,5 @@
 -- The machine's struct as a state of the rules, and its verdicts as theirs.
-use Rattle.std.specs.Prelude.{ℕ, zero, suc, ◌-◌, List, [], ◌∷◌, ◌++◌, eqb, get_or, replicate}
-use Rattle.laws.specs.Choice.{if◌then◌else◌}
+use Rattle.std.specs.Prelude.{ℕ, zero, suc, ◌-◌, List, [], ◌∷◌, ◌++◌, eqb, get_or, replicate, if◌then◌else◌}
 use Rattle.rules.specs.Explicit.{State, Entry, valid, invalid, highest_explicit, opens_valid, opens_invalid, closes_valid, closes_invalid, closes_nothing, plain}
 use Rattle.rules.specs.Explicit as rules
 use Rattle.machine.specs.declared.Machine.{Machine}

@@ -1,6 +1,5 @@
 -- What the steps of the machine meet, one inner function at a time.
-use Rattle.std.specs.Prelude.{ℕ, ◌+◌, ◌-◌, ◌≤◌, ◌<◌, ◌≡◌, ◌||◌, eqb, get_or}
-use Rattle.laws.specs.Choice.{if◌then◌else◌}
+use Rattle.std.specs.Prelude.{ℕ, ◌+◌, ◌-◌, ◌≤◌, ◌<◌, ◌≡◌, ◌||◌, eqb, get_or, if◌then◌else◌}
 use Rattle.rules.specs.Classes.{L, R, LRO, RLE, RLO}
 use Rattle.rules.specs.Explicit.{highest_explicit, neutral, least_greater_odd, least_greater_even}
 use Rattle.rules.specs.Explicit as rules

@@ -1,5 +1,7 @@
 // The machine of rules X1 to X9: a state by value, which takes one class and hands back the next state. Its fields are its
 // own: a machine is made by `new` and changed by `step` alone.
+#![tactic(auto)]
+
 ghost use Rattle.std.specs.Prelude.{◌≡◌, ◌≤◌, ◌<◌, ◌+◌, ◌^◌};
 ghost use Rattle.rules.specs.Explicit.{X1, highest_explicit, least_greater_odd, least_greater_even, opening, closing, verdict, after, step, level_here, type_here};
 ghost use Rattle.rules.specs.Explicit as rules;
@@ -14,7 +16,7 @@ const NEXT_TO_HIGHEST: u8 = classes::HIGHEST_EXPLICIT - 1;
 const MOST: usize = classes::HIGHEST_EXPLICIT as usize;
 
 // What a class does in a state. A verdict that opens or closes validly names the level and override to take.
-#[derive(Drop)]
+#[derive(Clone, Copy)]
 pub enum Verdict {
     OpensValid(u8, u8),
     OpensInvalid,
@@ -26,7 +28,7 @@ pub enum Verdict {
 
 // The pairs not yet matched lie in two arrays, of which the first `depth` places count. Invalid codes need no places of
 // their own: only at levels 60 and 61 can there be any, and they are matched before what is remembered below.
-#[derive(Drop)]
+#[derive(Clone, Copy)]
 pub struct Machine {
     levels: [u8; MOST],
     overrides: [u8; MOST],

@@ -1,5 +1,7 @@
 // The drawing order of marks: canonical ordering, then the steps of Arabic mark rendering. The job
 // checks its input and refuses it with a number, and then has altered nothing.
+#![tactic(auto)]
+
 mod draw;
 
 ghost use Rattle.marks.specs.Answers.{marks_page, DrawsMarks};
@@ -8,7 +10,7 @@ use draw::draw;
 use refusals::{Checked, Refusal};
 
 // How many characters were put in drawing order, or why none were.
-#[derive(Drop)]
+#[derive(Clone, Copy)]
 pub enum MarksAnswer {
     Drawn(usize),
     Refused(Refusal),

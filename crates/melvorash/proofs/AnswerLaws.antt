@@ -18,14 +18,14 @@ pub leaves_written : {A : Type 0} (check : Check) (value wanted : A) (written bu
 leaves_written check value wanted written buffer after e v w = record { told = answer_sound e v; buffer = left_sound buffer e w }
 
 -- Explicit and Resolve: levels by the base that is used
-module _ (levelsBy : ℕ → List ℕ) (cs : List ℕ) (request fallback : ℕ) (levels : List ℕ) where
-  pub levels_refused : (number place : ℕ) → checks_of_levels cs request fallback (length levels) ≡ refuse number place → Leaves (levels_answer cs request fallback levels) (where_sound (checks_of_levels cs request fallback (length levels)) (over (levelsBy (base_of request fallback cs)) levels) levels) (refused number place) levels
+module _ (levels_by : ℕ → List ℕ) (cs : List ℕ) (request fallback : ℕ) (levels : List ℕ) where
+  pub levels_refused : (number place : ℕ) → checks_of_levels cs request fallback (length levels) ≡ refuse number place → Leaves (levels_answer cs request fallback levels) (where_sound (checks_of_levels cs request fallback (length levels)) (over (levels_by (base_of request fallback cs)) levels) levels) (refused number place) levels
   unfolding levels_answer
   levels_refused number place e =
-      leaves_refused (checks_of_levels cs request fallback (length levels)) number place (base_of request fallback cs) (over (levelsBy (base_of request fallback cs)) levels) levels e
+      leaves_refused (checks_of_levels cs request fallback (length levels)) number place (base_of request fallback cs) (over (levels_by (base_of request fallback cs)) levels) levels e
 
-  pub levels_written : (base : ℕ) (after : List ℕ) → checks_of_levels cs request fallback (length levels) ≡ sound → base ≡ base_of request fallback cs → after ≡ over (levelsBy base) levels → Leaves (levels_answer cs request fallback levels) (where_sound (checks_of_levels cs request fallback (length levels)) (over (levelsBy (base_of request fallback cs)) levels) levels) (accepted base) after
+  pub levels_written : (base : ℕ) (after : List ℕ) → checks_of_levels cs request fallback (length levels) ≡ sound → base ≡ base_of request fallback cs → after ≡ over (levels_by base) levels → Leaves (levels_answer cs request fallback levels) (where_sound (checks_of_levels cs request fallback (length levels)) (over (levels_by (base_of request fallback cs)) levels) levels) (accepted base) after
   unfolding levels_answer
   levels_written base after e used wrote =
-      leaves_written (checks_of_levels cs request fallback (length levels)) base (base_of request fallback cs) (over (levelsBy (base_of request fallback cs)) levels) levels after e used
-      (wrote ∙ ap (λ (b : ℕ). over (levelsBy b) levels) used)
+      leaves_written (checks_of_levels cs request fallback (length levels)) base (base_of request fallback cs) (over (levels_by (base_of request fallback cs)) levels) levels after e used
+      (wrote ∙ ap (λ (b : ℕ). over (levels_by b) levels) used)

@@ -1,5 +1,6 @@
 -- Cut: its walk, step by step, and the paragraph as a part of the text.
 -- Assumes nothing.
+use Rattle.std.specs.Prelude.{if◌then◌else◌}
 use Prim.Native.Nat.{ℕ, suc, ◌+◌, ◌-◌, ◌≤◌, ◌<◌, min}
 use native.Mathlib.Nat.{zero-add}
 use native.Mathlib.Numerals.{add-one}
@@ -10,7 +11,6 @@ use mathlib.Core.List.{List, [], ◌∷◌}
 use borrow.Author.Tests.{eq-eqb, ne_eqb, eqb-true, eqb-false}
 use lib.Dec.{eqb}
 use lib.ListN.{length, get_or, take, drop, length-take, drop_of_length-le}
-use Rattle.laws.specs.Choice.{if◌then◌else◌}
 use Rattle.rules.specs.Classes.{B, is_unknown, is_paragraph_end}
 use Rattle.rules.specs.Paragraph.{is_pair, P1}
 use Rattle.rules.specs.Refusals.{longest_paragraph, Check, sound, refuse, refuse_where, check_some, walk, checks_of_cut}

@@ -1,4 +1,5 @@
 -- How high the written levels are, and that Order takes what Resolve wrote. Assumes nothing.
+use Rattle.std.specs.Prelude.{if◌then◌else◌}
 use Prim.Native.Nat.{ℕ, ◌-◌, ◌≤◌}
 use native.Mathlib.Omega.{arith}
 use mathlib.Core.Path.{◌≡◌, refl, sym, ap, ◌∙◌}
@@ -8,7 +9,6 @@ use mathlib.Core.List.{List, [], ◌∷◌, ◌++◌}
 use borrow.Author.Tests.{le-ltb}
 use lib.Dec.{leb, ltb}
 use lib.ListN.{length, drop, length-append, length-drop}
-use Rattle.laws.specs.Choice.{if◌then◌else◌}
 use Rattle.rules.specs.Classes.{is_removed}
 use Rattle.rules.specs.Paragraph.{base_of}
 use Rattle.rules.specs.Explicit.{highest_explicit, X1, explicit_levels, kept}

@@ -1,6 +1,5 @@
 -- What Cut answers where its walk stops.
-use Rattle.std.specs.Prelude.{ℕ, ◌+◌, List, eqb, get_or, drop}
-use Rattle.laws.specs.Choice.{if◌then◌else◌}
+use Rattle.std.specs.Prelude.{ℕ, ◌+◌, List, eqb, get_or, drop, if◌then◌else◌}
 use Rattle.rules.specs.Classes.{is_unknown}
 use Rattle.rules.specs.Paragraph.{is_pair}
 use Rattle.rules.specs.Refusals.{longest_paragraph}

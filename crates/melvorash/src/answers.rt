@@ -3,14 +3,14 @@ use line::Placed;
 use refusals::Refusal;
 
 // The first paragraph's length.
-#[derive(Drop)]
+#[derive(Clone, Copy)]
 pub enum CutAnswer {
     Length(usize),
     Refused(Refusal),
 }
 
 // The base level by the text, or that it decides none.
-#[derive(Drop)]
+#[derive(Clone, Copy)]
 pub enum BaseAnswer {
     Level(u8),
     NoneFound,
@@ -18,14 +18,14 @@ pub enum BaseAnswer {
 }
 
 // The base level that Explicit or Resolve used.
-#[derive(Drop)]
+#[derive(Clone, Copy)]
 pub enum LevelsAnswer {
     Base(u8),
     Refused(Refusal),
 }
 
 // What ordering did: how many positions it placed, and how many the passes reversed.
-#[derive(Drop)]
+#[derive(Clone, Copy)]
 pub enum OrderAnswer {
     Ordered(Placed),
     Refused(Refusal),

@@ -1,5 +1,7 @@
 // The five jobs. Each checks its input, refuses it with the page's number and place, and then has
 // altered nothing; or does its work by the definitions of section 3.12.
+#![tactic(auto)]
+
 mod answers;
 mod levels;
 mod order;

@@ -1,7 +1,6 @@
 -- What an exported function promises: what its job promises, with the answer in three numbers, or four for an order.
-use Rattle.std.specs.Prelude.{ℕ, ◌≡◌, eqb}
+use Rattle.std.specs.Prelude.{ℕ, ◌≡◌, eqb, if◌then◌else◌}
 use Rattle.std.proofs.Math.Option.{Option, none, some}
-use Rattle.laws.specs.Choice.{if◌then◌else◌}
 use Rattle.rules.specs.Jobs.{Answer, accepted, refused, Placing}
 use Rattle.melvorash_c.specs.declared.answer.Answer as Exported
 use Rattle.melvorash_c.specs.declared.answer.OrderAnswer as ExportedOrder

@@ -12,7 +12,7 @@ use refusals::Refusal;
 // Accepted: refusal 0, place 0 and what the job answers. Refused: the page's number and place, value 0.
 // Numbers of one width leave no padding, so every byte of an answer is determined.
 #[repr(C)]
-#[derive(Drop)]
+#[derive(Clone, Copy)]
 pub struct Answer {
     pub refusal: usize,
     pub place: usize,
@@ -21,7 +21,7 @@ pub struct Answer {
 
 // The answer of an order: how many positions were reversed, too. Refused: value and reversed 0.
 #[repr(C)]
-#[derive(Drop)]
+#[derive(Clone, Copy)]
 pub struct OrderAnswer {
     pub refusal: usize,
     pub place: usize,

@@ -1,6 +1,8 @@
 // The jobs for C and Rust. Each exported function is one job of `melvorash` or `marks`: it asks nothing of its
 // input, promises what the job promises, and hands the answer over in three numbers, or four for an order.
 // A slice is a pointer and a length there.
+#![tactic(auto)]
+
 mod answer;
 
 ghost use Rattle.std.specs.Prelude.{◌≡◌};

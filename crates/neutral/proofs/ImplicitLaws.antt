@@ -1,5 +1,6 @@
 -- Implicit levels stay within the highest resolved one: at an odd level a type goes up by at most 1, at an even one by at
 -- most 2. And I1 and I2 as the levels of a run. Assumes nothing.
+use Rattle.std.specs.Prelude.{if◌then◌else◌}
 use Prim.Native.Nat.{ℕ, ◌+◌, ◌≤◌, ◌<◌}
 use native.Mathlib.Omega.{arith}
 use mathlib.Core.Bool.{Bool, true, false, ◌||◌}
@@ -9,7 +10,7 @@ use mathlib.Core.List.{List, [], ◌∷◌, map}
 use borrow.Author.Tests.{eqb-true}
 use lib.Dec.{eqb}
 use lib.ListN.{length, length-map}
-use Rattle.laws.specs.Choice.{if◌then◌else◌, is_odd}
+use Rattle.laws.specs.Choice.{is_odd}
 use Rattle.rules.specs.Classes.{L, R, EN, AN}
 use Rattle.rules.specs.Explicit.{highest_explicit}
 use Rattle.rules.specs.Refusals.{highest_resolved}

@@ -1,6 +1,5 @@
 -- The level that a run's levels give to a type.
-use Rattle.std.specs.Prelude.{ℕ, eqb}
-use Rattle.laws.specs.Choice.{if◌then◌else◌}
+use Rattle.std.specs.Prelude.{ℕ, eqb, if◌then◌else◌}
 use Rattle.rules.specs.Classes.{L, R, EN, AN}
 use Rattle.neutral.specs.declared.Finals.{Finals}
 

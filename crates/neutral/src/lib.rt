@@ -1,6 +1,8 @@
 // Neutral types and implicit levels: rules N1 and N2, I1 and I2 on one run.
-ghost use Rattle.std.specs.Prelude.{◌≡◌, map, ℕ, ◌+◌, ◌<◌, ◌||◌, eqb, length, drop};
-ghost use Rattle.laws.specs.Choice.{if◌then◌else◌, is_odd};
+#![tactic(auto)]
+
+ghost use Rattle.std.specs.Prelude.{◌≡◌, map, ℕ, ◌+◌, ◌<◌, ◌||◌, eqb, length, drop, if◌then◌else◌};
+ghost use Rattle.laws.specs.Choice.{is_odd};
 ghost use Rattle.rules.specs.Classes.{is_neutral, EN, AN, ON};
 ghost use Rattle.rules.specs.Neutral.{direction, level_direction, change_N1, change_N2, N1, N2};
 ghost use Rattle.rules.specs.Implicit.{implicit_level};
@@ -78,7 +80,7 @@ fn neutrals_end(types: &[u8], from: usize) -> usize
 }
 
 // The levels that the types of a run come to: one for each type that I1 and I2 raise, and the run's own for any other.
-#[derive(Drop)]
+#[derive(Clone, Copy)]
 struct Finals {
     l: u8,
     r: u8,

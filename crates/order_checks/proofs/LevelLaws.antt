@@ -1,5 +1,6 @@
 -- The laws of the lent levels: what is bad, one step of the walk to the first, and that there is no first where there is
 -- none. Assumes nothing.
+use Rattle.std.specs.Prelude.{if◌then◌else◌}
 use Prim.Native.Nat.{ℕ, suc, ◌+◌, ◌≤◌, ◌<◌}
 use native.Mathlib.Numerals.{add-one}
 use native.Mathlib.Omega.{arith}
@@ -9,7 +10,6 @@ use mathlib.Core.List.{List, [], ◌∷◌}
 use lib.Dec.{eqb, ltb}
 use lib.ListN.{length, get_or, drop, drop_of_length-le}
 use Rattle.laws.specs.Any.{any_pair}
-use Rattle.laws.specs.Choice.{if◌then◌else◌}
 use Rattle.laws.proofs.Any.{no_pair_first}
 use Rattle.laws.proofs.Lists.{drop_next}
 use Rattle.rules.specs.Classes.{is_removed}

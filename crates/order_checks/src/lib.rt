@@ -1,5 +1,7 @@
 // The checks of Order, of one line and of all lines, made before anything is written. Each answers what the definition of
 // that check says, in the page's numbers and places.
+#![tactic(auto)]
+
 mod levels;
 
 ghost use Rattle.std.specs.Prelude.{◌≡◌, ◌-◌, length};

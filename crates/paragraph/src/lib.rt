@@ -1,5 +1,7 @@
 // The pair that P1 does not cut apart; and the base level of a paragraph: rules P2 and P3, the request that may stand in
 // their place, and the default for a text that decides nothing.
+#![tactic(auto)]
+
 ghost use Rattle.std.specs.Prelude.{◌≡◌, ◌+◌, get_or, drop};
 ghost use Rattle.rules.specs.Paragraph.{is_pair, P2, P3, base_by_text, or_else, base_of};
 ghost use Rattle.paragraph.specs.Found.{found_of, decided_of};
@@ -19,7 +21,7 @@ pub fn is_pair(classes: &[u8], at: usize) -> bool
     false
 }
 
-#[derive(Drop)]
+#[derive(Clone, Copy)]
 pub enum FirstStrong {
     Class(u8),
     Nothing,
@@ -41,7 +43,7 @@ pub(crate) fn first_strong(classes: &[u8]) -> FirstStrong
 }
 
 // What the text says of its base level: nothing where it has no strong class.
-#[derive(Drop)]
+#[derive(Clone, Copy)]
 pub enum Decided {
     Level(u8),
     Nothing,

@@ -1,4 +1,6 @@
 // What the passes of several crates share, over plain slices.
+#![tactic(auto)]
+
 ghost use Rattle.std.specs.Prelude.{◌≡◌, ◌||◌, ◌≤◌, length, get_or, replicate};
 ghost use Rattle.rules.specs.Classes.{is_removed};
 ghost use Rattle.laws.specs.Parts.{over};

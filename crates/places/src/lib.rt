@@ -2,14 +2,16 @@
 // a position of the text cannot be taken for a place of the order. The functions here are the only ones of a line's
 // crates that index a buffer by either. A position counts from the start of the slice that is lent, the paragraph's or the
 // line's; a place from the line's first, or in a block of places from the block's.
+#![tactic(auto)]
+
 ghost use Rattle.std.specs.Prelude.{◌≡◌, ◌<◌, length, get_or, set};
 
 // In memory order: classes, and levels before they are packed.
-#[derive(Drop)]
+#[derive(Clone, Copy)]
 pub struct Position(pub usize);
 
 // From left to right: the order, and the kept positions' levels.
-#[derive(Drop)]
+#[derive(Clone, Copy)]
 pub struct Place(pub usize);
 
 pub fn byte_at(bytes: &[u8], at: Position) -> u8

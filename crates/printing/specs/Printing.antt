@@ -1,6 +1,5 @@
 -- The printing program: what it writes for a line, and for its whole input.
-use Rattle.std.specs.Prelude.{ℕ, ◌+◌, ◌*◌, ◌≡◌, List, [], ◌∷◌, ◌++◌, ltb, length, take}
-use Rattle.laws.specs.Choice.{if◌then◌else◌}
+use Rattle.std.specs.Prelude.{ℕ, ◌+◌, ◌*◌, ◌≡◌, List, [], ◌∷◌, ◌++◌, ltb, length, take, if◌then◌else◌}
 use Rattle.rules.specs.Paragraph.{base_of}
 use Rattle.rules.specs.Resolve.{resolved_levels}
 use Rattle.rules.specs.Line.{line_order}

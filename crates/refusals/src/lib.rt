@@ -1,4 +1,6 @@
 // What a refusal is: the page's number and a place. Another refusal is another constant here.
+#![tactic(auto)]
+
 ghost use Rattle.std.specs.Prelude.{◌≡◌};
 ghost use Rattle.refusals.specs.Page.{refusal_with};
 
@@ -29,14 +31,14 @@ pub const BAD_ENDS: u8 = 10;
 pub const SHORT_BUFFER: u8 = 16;
 
 // The place is the first faulty position, or 0 where the page gives none.
-#[derive(Drop)]
+#[derive(Clone, Copy)]
 pub struct Refusal {
     pub number: u8,
     pub place: usize,
 }
 
 // What a check finds.
-#[derive(Drop)]
+#[derive(Clone, Copy)]
 pub enum Checked {
     Sound,
     Refused(Refusal),

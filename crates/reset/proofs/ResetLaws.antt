@@ -4,7 +4,7 @@ use Prim.Native.Nat.{ℕ, suc, ◌-◌, ◌≤◌, ◌<◌}
 use native.Mathlib.Omega.{arith}
 use mathlib.Core.Path.{◌≡◌, refl, sym, ap, subst, ◌∙◌}
 use mathlib.Core.Bool.{Bool, true}
-use mathlib.Core.List.{List, [], ◌∷◌, ◌++◌}
+use mathlib.Core.List.{List, ◌∷◌, ◌++◌}
 use lib.ListN.{length, get_or, drop, set, length-set}
 use lib.Seq.{drop-cons, drop-length}
 use Rattle.laws.specs.Parts.{over}

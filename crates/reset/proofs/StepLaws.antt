@@ -1,10 +1,10 @@
 -- Each way through a step of the walk. Assumes nothing.
+use Rattle.std.specs.Prelude.{if◌then◌else◌}
 use Prim.Native.Nat.{ℕ}
 use mathlib.Core.Path.{◌≡◌, refl, ◌∙◌}
 use mathlib.Core.Bool.{Bool, true, false, ◌||◌, ◌&&◌}
 use borrow.Author.Tests.{eqb-true}
 use lib.Dec.{eqb}
-use Rattle.laws.specs.Choice.{if◌then◌else◌}
 use Rattle.laws.proofs.Passes.{by_test}
 use Rattle.rules.specs.Classes.{S, is_opening, is_removed, is_separator, is_blank}
 use Rattle.rules.proofs.PairLaws.{of_ends}

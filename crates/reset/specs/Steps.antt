@@ -1,6 +1,5 @@
 -- One step of the walk, from a position to the one before it.
-use Rattle.std.specs.Prelude.{ℕ, ◌≡◌, Bool, true, ◌||◌}
-use Rattle.laws.specs.Choice.{if◌then◌else◌}
+use Rattle.std.specs.Prelude.{ℕ, ◌≡◌, Bool, true, ◌||◌, if◌then◌else◌}
 use Rattle.rules.specs.Classes.{is_removed, is_separator, is_blank}
 use Rattle.rules.specs.Line.{reset_level}
 use Rattle.reset.specs.declared.Stepped.{Stepped}

@@ -1,4 +1,6 @@
 // L1: the line's own reset of blanks and separators, on the classes and levels of one line.
+#![tactic(auto)]
+
 ghost use Rattle.std.specs.Prelude.{◌≡◌, true, ◌≤◌, length};
 ghost use Rattle.laws.specs.Parts.{over};
 ghost use Rattle.rules.specs.Line.{L1};
@@ -8,7 +10,7 @@ use places::Position;
 
 // What a step of the walk gives: the level here, and whether only blanks stand between the position before this one and a
 // separator or the line's end.
-#[derive(Drop)]
+#[derive(Clone, Copy)]
 struct Stepped {
     level: u8,
     ahead: bool,

@@ -1,5 +1,6 @@
 -- The laws of putting levels back: how many positions are kept, and the walk from the last position to the first.
 -- Assumes nothing.
+use Rattle.std.specs.Prelude.{if◌then◌else◌}
 use Prim.Native.Nat.{ℕ, zero, suc, ◌+◌, ◌-◌, ◌≤◌, ◌<◌}
 use native.Mathlib.Nat.{le_of_suc-le-suc, not-suc-le-zero}
 use native.Mathlib.Omega.{arith}
@@ -8,7 +9,7 @@ use mathlib.Core.Bool.{Bool, true, false}
 use mathlib.Core.List.{List, [], ◌∷◌, ◌++◌, append_assoc, tail}
 use lib.ListN.{length, get_or, take, drop, set, length-take, length-set, take-append-drop}
 use lib.Seq.{take-length, drop-length, take-set-le, take-take, get_or-take, get_or-set_same}
-use Rattle.laws.specs.Choice.{if◌then◌else◌, head_or}
+use Rattle.laws.specs.Choice.{head_or}
 use Rattle.rules.specs.Classes.{is_removed}
 use Rattle.rules.specs.Explicit.{removed_level, kept, put_back}
 use Rattle.laws.proofs.Lists.{drop_next, drop_set_next, take_next}

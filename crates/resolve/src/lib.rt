@@ -1,4 +1,6 @@
 // The resolved levels of a paragraph: X10, then W, N and I over each run of kept positions.
+#![tactic(auto)]
+
 ghost use Rattle.std.specs.Prelude.{◌≡◌, ◌≤◌, length};
 ghost use Rattle.laws.specs.Parts.{over};
 ghost use Rattle.rules.specs.Refusals.{longest_paragraph};

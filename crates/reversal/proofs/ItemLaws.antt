@@ -1,6 +1,7 @@
 -- The passes of the definition move items, each with its level; the code moves positions and reads levels by place.
 -- Both give the same: a pass leaves every test on a level not above its own as it was at each place.
 -- Assumes nothing.
+use Rattle.std.specs.Prelude.{if◌then◌else◌}
 use Prim.Native.Nat.{ℕ, zero, suc, ◌%◌, ◌≤◌, ◌<◌, max, min}
 use native.Mathlib.Omega.{arith}
 use mathlib.Core.Path.{◌≡◌, refl, sym, ap, ◌∙◌}
@@ -10,7 +11,7 @@ use mathlib.Core.List.{List, [], ◌∷◌, ◌++◌, map, append_assoc}
 use lib.Dec.{leb}
 use lib.ListN.{length}
 use borrow.Author.Tests.{leb-true, le-leb, eqb-false}
-use Rattle.laws.specs.Choice.{if◌then◌else◌, is_odd}
+use Rattle.laws.specs.Choice.{is_odd}
 use Rattle.rules.specs.Line.{Item, positions_of, levels_of, L2, pass, passes, highest, lowest_odd}
 use Rattle.rules.specs.Reversals.{L2_reverses, slots}
 use Rattle.laws.proofs.Lists.{le_or_lt}

@@ -1,5 +1,6 @@
 -- One pass, stretch by stretch: what is below the level, the stretch behind it turned round, and the pass over what is left.
 -- Assumes nothing.
+use Rattle.std.specs.Prelude.{if◌then◌else◌}
 use Prim.Native.Nat.{ℕ, zero, suc, ◌+◌, ◌-◌, ◌≤◌, ◌<◌}
 use native.Mathlib.Nat.{zero-add}
 use native.Mathlib.Omega.{arith}
@@ -11,7 +12,6 @@ use lib.Dec.{leb, ltb}
 use borrow.Author.Tests.{le-leb, lt-leb, ltb-true, ltb-false}
 use lib.ListN.{length, get_or, take, drop, length-append, length-drop, length-reverse, drop_of_length-le, take-append-drop, get_or-append}
 use lib.Seq.{drop-drop, get_or-drop, get_or-take, get_or-append-add, length-take-le, ext_get_or}
-use Rattle.laws.specs.Choice.{if◌then◌else◌}
 use Rattle.laws.proofs.Lists.{le_or_lt, drop_next}
 use Rattle.laws.specs.Stretches.{span}
 use Rattle.laws.proofs.Passes.{span_end}

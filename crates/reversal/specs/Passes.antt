@@ -1,6 +1,5 @@
 -- The passes of L2 as they are made: what stands in an order is moved, and the levels are read by place, as they were before any pass.
-use Rattle.std.specs.Prelude.{ℕ, zero, suc, ◌+◌, ◌≤◌, ◌<◌, ◌≡◌, Bool, List, [], ◌∷◌, ◌++◌, leb, ltb, length, get_or, drop}
-use Rattle.laws.specs.Choice.{if◌then◌else◌}
+use Rattle.std.specs.Prelude.{ℕ, zero, suc, ◌+◌, ◌≤◌, ◌<◌, ◌≡◌, Bool, List, [], ◌∷◌, ◌++◌, leb, ltb, length, get_or, drop, if◌then◌else◌}
 use Rattle.laws.specs.Stretches.{span}
 
 -- what a pass at that level leaves where it is

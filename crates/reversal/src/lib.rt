@@ -1,5 +1,7 @@
 // L2: the passes of reversal, from the highest level of a line down to its lowest odd one. The order is moved; the levels
 // are read by place, as they were before any pass.
+#![tactic(auto)]
+
 ghost use Rattle.std.specs.Prelude.{◌≡◌, ◌+◌, ◌≤◌, ◌<◌, [], leb, length, get_or, set, drop};
 ghost use Rattle.laws.specs.Stretches.{span};
 ghost use Rattle.reversal.specs.Passes.{below, Skipped, pass_by, passes_by, Turned};

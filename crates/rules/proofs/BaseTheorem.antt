@@ -1,4 +1,5 @@
 -- What Base answers is what Explicit and Resolve use by text, and the default where it finds none. Assumes nothing.
+use Rattle.std.specs.Prelude.{if◌then◌else◌}
 use Prim.Native.Nat.{ℕ, ◌≤◌}
 use native.Mathlib.Omega.{arith}
 use mathlib.Core.Path.{◌≡◌, refl, sym, ap, ◌∙◌}
@@ -8,7 +9,6 @@ use mathlib.Core.List.{List, [], ◌∷◌, map}
 use borrow.Author.Tests.{eqb-false}
 use lib.Dec.{eqb}
 use lib.ListN.{length}
-use Rattle.laws.specs.Choice.{if◌then◌else◌}
 use Rattle.laws.proofs.Passes.{by_test}
 use Rattle.rules.specs.Classes.{L, R, AL, LRE, EN, WS, B, is_strong}
 use Rattle.rules.specs.Paragraph.{P2, P3, base_by_text, or_else, base_of}

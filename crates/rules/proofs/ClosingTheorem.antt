@@ -1,5 +1,6 @@
 -- The separators that close a paragraph are at its base level: after the explicit phase by X8, and after Resolve by N, which
 -- gives them the direction of the base. Assumes nothing.
+use Rattle.std.specs.Prelude.{if◌then◌else◌}
 use Prim.Native.Nat.{ℕ, zero, suc, ◌+◌, ◌≤◌, max, zero-le, suc-le-suc}
 use native.Mathlib.Nat.{suc-add}
 use native.Mathlib.Numerals.{one-add}
@@ -12,7 +13,7 @@ use lib.Dec.{eqb}
 use lib.ListN.{length, take, drop, replicate, length-map, length-drop, length-replicate, drop_of_length-le}
 use lib.Seq.{take_all, take-nil, take-length, drop-nil, drop-drop, drop-append-add, length-take-le}
 use Rattle.laws.specs.Any.{any_of}
-use Rattle.laws.specs.Choice.{if◌then◌else◌, is_odd, head_or}
+use Rattle.laws.specs.Choice.{is_odd, head_or}
 use Rattle.laws.specs.Stretches.{after_stretch, stretches}
 use Rattle.laws.proofs.Any.{none_first}
 use Rattle.laws.proofs.Every.{Every}

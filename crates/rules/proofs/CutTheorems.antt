@@ -1,6 +1,7 @@
 -- What the customer asks of Cut beside its answer: in which way alone the text behind a paragraph bears on it, that the
 -- second form's part is empty exactly when the first form refuses, and that what Cut gives is a paragraph that the other jobs
 -- take. Assumes nothing.
+use Rattle.std.specs.Prelude.{if◌then◌else◌}
 use Prim.Native.Nat.compare
 use Prim.Native.Nat.{ℕ, zero, suc, ◌≤◌}
 use native.Mathlib.Omega.{arith}
@@ -11,7 +12,6 @@ use borrow.Author.Tests.{ne_eqb, eqb-false, lt-ltb, le-ltb}
 use lib.Dec.{eqb, ltb}
 use lib.ListN.{length}
 use Rattle.laws.specs.Any.{any_of}
-use Rattle.laws.specs.Choice.{if◌then◌else◌}
 use Rattle.laws.proofs.Any.{none_first}
 use Rattle.laws.proofs.Passes.{by_test}
 use Rattle.rules.specs.Classes.{B, CR, is_unknown, is_paragraph_end}

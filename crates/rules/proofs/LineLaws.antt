@@ -1,11 +1,11 @@
 -- What the rules of a line keep. Assumes nothing.
+use Rattle.std.specs.Prelude.{if◌then◌else◌}
 use Prim.Native.Nat.{ℕ, suc, ◌≤◌}
 use native.Mathlib.Omega.{arith}
 use mathlib.Core.Path.{◌≡◌, refl, sym, ap, ◌∙◌}
 use mathlib.Core.Bool.{Bool, true, false}
 use mathlib.Core.List.{List, [], ◌∷◌}
 use lib.ListN.{length, length-map}
-use Rattle.laws.specs.Choice.{if◌then◌else◌}
 use Rattle.laws.proofs.SumLaws.{sum_ones}
 use Rattle.rules.specs.Classes.{is_removed}
 use Rattle.rules.specs.Line.{Item, L1, L2, items, passes, highest, lowest_odd, positions_of, line_kept, line_order}

@@ -1,5 +1,6 @@
 -- How high the levels of a line are: what Order's checks let pass is at most the highest resolved level on every kept
 -- position, and the line's reset puts nothing higher. Assumes nothing.
+use Rattle.std.specs.Prelude.{if◌then◌else◌}
 use Prim.Native.Nat.{ℕ, zero, suc, ◌*◌, ◌-◌, ◌≤◌}
 use native.Mathlib.Nat.{mul-add}
 use native.Mathlib.Omega.{arith}
@@ -9,7 +10,6 @@ use mathlib.Core.List.{List, [], ◌∷◌}
 use borrow.Author.Tests.{ltb-false}
 use lib.Dec.{ltb}
 use lib.ListN.{length, take, drop, length-append}
-use Rattle.laws.specs.Choice.{if◌then◌else◌}
 use Rattle.laws.specs.Parts.{part}
 use Rattle.laws.proofs.Every.{Every, AtMost}
 use Rattle.laws.proofs.Passes.{by_test}

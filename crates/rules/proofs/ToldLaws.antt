@@ -1,4 +1,5 @@
 -- What holds of the number and the place of every refusal; and that no number is 0. Assumes nothing.
+use Rattle.std.specs.Prelude.{if◌then◌else◌}
 use Prim.Native.Nat.{ℕ, zero, suc, ◌+◌, ◌-◌, ◌≤◌, ◌<◌}
 use native.Mathlib.Omega.{arith}
 use mathlib.Core.Path.{◌≡◌, refl}
@@ -6,7 +7,6 @@ use mathlib.Core.Bool.{Bool, true, false, ◌||◌, not}
 use mathlib.Core.List.{List, [], ◌∷◌}
 use lib.Dec.{eqb, leb, ltb}
 use lib.ListN.{length}
-use Rattle.laws.specs.Choice.{if◌then◌else◌}
 use Rattle.rules.specs.Classes.{is_unknown, is_paragraph_end}
 use Rattle.rules.specs.Paragraph.{is_pair}
 use Rattle.rules.specs.Refusals.{longest_paragraph, Check, sound, refuse, ◌and_then◌, refuse_where, is_empty, check_some, check_length, may_end, fault_at, first_fault, check_classes, check_request, check_base, check_level_room, is_bad_level, first_bad_level, check_line, check_order_room, ends_rise_to, check_ends, check_mark_room, checks_of_base, checks_of_levels, checks_of_order, checks_of_line, checks_of_lines, checks_of_marks, walk, checks_of_cut}

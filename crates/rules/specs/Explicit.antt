@@ -1,7 +1,7 @@
 -- Explicit levels and directions: rules X1 to X9, as a machine that takes one class at a time.
-use Rattle.std.specs.Prelude.{ℕ, ◌+◌, eqb, leb}
+use Rattle.std.specs.Prelude.{ℕ, ◌+◌, eqb, leb, if◌then◌else◌}
 use mathlib.Core.List.{List, [], ◌∷◌, tail}
-use Rattle.laws.specs.Choice.{if◌then◌else◌, is_odd, head_or}
+use Rattle.laws.specs.Choice.{is_odd, head_or}
 use Rattle.rules.specs.Classes.{L, R, LRE, LRO, RLE, RLO, PDF, ON, is_removed, is_paragraph_end}
 
 -- the highest level that a code may take

@@ -1,6 +1,6 @@
 -- Implicit levels: rules I1 and I2.
-use Rattle.std.specs.Prelude.{ℕ, ◌+◌, ◌||◌, eqb}
-use Rattle.laws.specs.Choice.{if◌then◌else◌, is_odd}
+use Rattle.std.specs.Prelude.{ℕ, ◌+◌, ◌||◌, eqb, if◌then◌else◌}
+use Rattle.laws.specs.Choice.{is_odd}
 use Rattle.rules.specs.Classes.{L, R, EN, AN}
 
 -- I1: at an even level R goes up by 1, EN and AN by 2

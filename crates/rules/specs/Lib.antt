@@ -12,7 +12,7 @@
 --   R1 to R3           Canonical: R1 is its p, R2 and R3 under their names
 --   steps 2a to 2c     Stacking, each under its name; step 2 is for all stretches of a text
 -- Document 02 moves some of this: class CR and the pair (Classes.CR, Paragraph.is_pair, Refusals.may_end), the default of a
--- base that the text does not decide (Paragraph.or_else, baseOf, Refusals.check_request), and the count that Order answers
+-- base that the text does not decide (Paragraph.or_else, base_of, Refusals.check_request), and the count that Order answers
 -- beside how many positions it placed (Reversals, Jobs.Placing).
 -- The words on lists that these are written in (if, over, part, stretches and the like) are in laws/specs.
 -- Refusals has the eleven refusals and each job's order of checks, Jobs what each job answers and leaves in its buffer,

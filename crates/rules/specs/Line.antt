@@ -1,7 +1,7 @@
 -- The order of one line: rules L1 and L2.
-use Rattle.std.specs.Prelude.{ℕ, zero, suc, max, min, Bool, true, ◌||◌, ◌&&◌, List, [], ◌∷◌, ◌++◌, map, leb}
+use Rattle.std.specs.Prelude.{ℕ, zero, suc, max, min, Bool, true, ◌||◌, ◌&&◌, List, [], ◌∷◌, ◌++◌, map, leb, if◌then◌else◌}
 use Rattle.laws.specs.Parts.{part}
-use Rattle.laws.specs.Choice.{if◌then◌else◌, is_odd}
+use Rattle.laws.specs.Choice.{is_odd}
 use Rattle.rules.specs.Classes.{is_removed, is_separator, is_blank}
 
 -- nothing but blanks (removed positions do not interrupt them) up to a separator or the line's end

@@ -1,6 +1,6 @@
 -- Neutral types (B, CR, S, WS, ON): rules N1 and N2.
-use Rattle.std.specs.Prelude.{ℕ, ◌||◌, List, map, eqb}
-use Rattle.laws.specs.Choice.{if◌then◌else◌, is_odd}
+use Rattle.std.specs.Prelude.{ℕ, ◌||◌, List, map, eqb, if◌then◌else◌}
+use Rattle.laws.specs.Choice.{is_odd}
 use Rattle.rules.specs.Classes.{L, R, EN, AN, is_neutral}
 use Rattle.laws.specs.Stretches.{stretches}
 

@@ -1,7 +1,6 @@
 -- Paragraphs and the base level: rules P1 to P3.
-use Rattle.std.specs.Prelude.{ℕ, Bool, false, ◌||◌, ◌&&◌, List, [], ◌∷◌, eqb}
+use Rattle.std.specs.Prelude.{ℕ, Bool, false, ◌||◌, ◌&&◌, List, [], ◌∷◌, eqb, if◌then◌else◌}
 use Rattle.std.proofs.Math.Option.{Option, none, some}
-use Rattle.laws.specs.Choice.{if◌then◌else◌}
 use Rattle.rules.specs.Classes.{R, AL, B, CR, is_paragraph_end, is_strong}
 
 -- a class, given what stands after it: whether it is a CR and a B follows it directly

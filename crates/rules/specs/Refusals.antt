@@ -1,6 +1,5 @@
 -- The refusals: the number and the place of each, and the order of checks of each job.
-use Rattle.std.specs.Prelude.{ℕ, zero, suc, ◌-◌, Bool, true, false, ◌||◌, ◌&&◌, not, List, [], ◌∷◌, eqb, leb, ltb, length}
-use Rattle.laws.specs.Choice.{if◌then◌else◌}
+use Rattle.std.specs.Prelude.{ℕ, zero, suc, ◌-◌, Bool, true, false, ◌||◌, ◌&&◌, not, List, [], ◌∷◌, eqb, leb, ltb, length, if◌then◌else◌}
 use Rattle.rules.specs.Classes.{is_unknown, is_removed, is_paragraph_end}
 use Rattle.rules.specs.Paragraph.{is_pair}
 use Rattle.rules.specs.Explicit.{removed_level}

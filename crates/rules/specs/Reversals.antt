@@ -1,6 +1,6 @@
 -- Ticket 6: how many positions the passes of L2 reverse, a stretch of one counted as one, added over all passes.
-use Rattle.std.specs.Prelude.{ℕ, zero, suc, ◌+◌, ◌-◌, ◌≡◌, false, List, [], ◌∷◌, leb, length}
-use Rattle.laws.specs.Choice.{if◌then◌else◌, is_odd}
+use Rattle.std.specs.Prelude.{ℕ, zero, suc, ◌+◌, ◌-◌, ◌≡◌, false, List, [], ◌∷◌, leb, length, if◌then◌else◌}
+use Rattle.laws.specs.Choice.{is_odd}
 use Rattle.laws.specs.Any.{any_of}
 use Rattle.laws.specs.Sums.{sum_of}
 use Rattle.rules.specs.Line.{Item, levels_of, pass, highest, lowest_odd, line_kept}

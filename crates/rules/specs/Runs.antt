@@ -1,6 +1,6 @@
 -- Level runs: rule X10.
-use Rattle.std.specs.Prelude.{ℕ, suc, max, List, [], ◌∷◌, eqb}
-use Rattle.laws.specs.Choice.{if◌then◌else◌, is_odd}
+use Rattle.std.specs.Prelude.{ℕ, suc, max, List, [], ◌∷◌, eqb, if◌then◌else◌}
+use Rattle.laws.specs.Choice.{is_odd}
 use Rattle.rules.specs.Classes.{L, R}
 
 -- the first run is one position longer

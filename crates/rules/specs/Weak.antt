@@ -1,7 +1,7 @@
 -- Weak types: rules W1 to W7. Each goes over a whole run before the next; sor and eor are the run's start and end types.
-use Rattle.std.specs.Prelude.{ℕ, Bool, ◌||◌, ◌&&◌, List, [], ◌∷◌, map, eqb}
+use Rattle.std.specs.Prelude.{ℕ, Bool, ◌||◌, ◌&&◌, List, [], ◌∷◌, map, eqb, if◌then◌else◌}
 use Rattle.laws.specs.Stretches.{stretches}
-use Rattle.laws.specs.Choice.{if◌then◌else◌, head_or}
+use Rattle.laws.specs.Choice.{head_or}
 use Rattle.rules.specs.Classes.{L, R, AL, EN, ES, ET, AN, CS, NSM, ON, is_strong}
 
 -- W1: NSM takes the type before it, at the start of the run the start type

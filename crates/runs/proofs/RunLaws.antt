@@ -1,5 +1,6 @@
 -- The laws of X10: how the end of a run is found, the direction of a boundary, and one run.
 -- Assumes nothing.
+use Rattle.std.specs.Prelude.{if◌then◌else◌}
 use Prim.Native.Nat.{ℕ, suc, ◌+◌, ◌-◌, ◌≤◌, ◌<◌, max}
 use native.Mathlib.Nat.{add-zero}
 use native.Mathlib.Omega.{arith}
@@ -9,7 +10,6 @@ use mathlib.Core.List.{List, [], ◌∷◌, map}
 use borrow.Author.Tests.{eq-eqb, ne_eqb}
 use lib.Dec.{eqb}
 use lib.ListN.{length, get_or, drop, drop_of_length-le}
-use Rattle.laws.specs.Choice.{if◌then◌else◌}
 use Rattle.rules.specs.Weak.{weak}
 use Rattle.rules.specs.Neutral.{N1, N2, level_direction}
 use Rattle.rules.specs.Implicit.{implicit_level}

@@ -1,4 +1,6 @@
 // X10: the runs, the types at their boundaries, and W, N and I over each run.
+#![tactic(auto)]
+
 ghost use Rattle.std.specs.Prelude.{◌≡◌, ℕ, ◌+◌, ◌<◌, length, get_or};
 ghost use Rattle.rules.specs.Runs.{boundary_type};
 ghost use Rattle.rules.specs.Resolve.{resolve_run, resolve_kept};

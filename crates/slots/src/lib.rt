@@ -1,4 +1,6 @@
 // How many positions the passes of reversal reverse, computed from the levels alone; the passes are not walked.
+#![tactic(auto)]
+
 ghost use Rattle.std.specs.Prelude.{◌≡◌, ◌-◌, ◌≤◌, length};
 ghost use Rattle.rules.specs.Refusals.{longest_paragraph};
 ghost use Rattle.rules.specs.Reversals.{slots};

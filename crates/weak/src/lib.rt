@@ -1,5 +1,7 @@
 // Weak types: rules W1 to W7 on the types of one run, in place, in two passes: W1 to W4, then W5 to W7. A run has a
 // start type `sor` and an end type `eor`.
+#![tactic(auto)]
+
 ghost use Rattle.std.specs.Prelude.{◌≡◌, false, ◌+◌, ◌≤◌, length, drop};
 ghost use Rattle.rules.specs.Weak.{W1, W2, W3, W4, W5, W6, W7, is_terminator, weak};
 ghost use Rattle.laws.specs.Any.{any_of};

@@ -1,5 +1,6 @@
 -- What is read off a table is what its rules make of the type. Only classes change, so that all other numbers share
 -- an entry. Assumes nothing.
+use Rattle.std.specs.Prelude.{if◌then◌else◌}
 use Prim.Native.Nat.{ℕ, ◌+◌, ◌*◌, ◌≤◌, ◌<◌, min}
 use native.Mathlib.Nat.{le_refl, mod-eq_of_lt}
 use native.Mathlib.Omega.{arith}
@@ -10,7 +11,6 @@ use borrow.Author.Tests.{eq-eqb, ne_eqb, eqb-true}
 use lib.Bits.{bit_and, and_zero_r, or_zero_l, or_zero_r, and_mask}
 use lib.Dec.{eqb}
 use lib.ListN.{get_or}
-use Rattle.laws.specs.Choice.{if◌then◌else◌}
 use Rattle.laws.specs.Tables.{table_of}
 use Rattle.rules.specs.Classes.{L, R, AL, EN, ES, ET, CS, last_place, row_width, is_strong}
 use Rattle.rules.specs.Weak.{change_W2, strong_W2, change_W3, change_W6, change_W7, is_side, strong_W7}

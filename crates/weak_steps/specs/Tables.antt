@@ -1,7 +1,6 @@
 -- The tables of src/lib.rt: that their numbers are what these rows make of the rules is computed. And how a table is read.
-use Rattle.std.specs.Prelude.{ℕ, ◌+◌, ◌*◌, min, Bool, not, List, [], ◌∷◌, eqb, get_or}
+use Rattle.std.specs.Prelude.{ℕ, ◌+◌, ◌*◌, min, Bool, not, List, [], ◌∷◌, eqb, get_or, if◌then◌else◌}
 use Rattle.std.specs.Int.Bits.{bit_and, bit_or}
-use Rattle.laws.specs.Choice.{if◌then◌else◌}
 use Rattle.laws.specs.Tables.{table_of}
 use Rattle.rules.specs.Classes.{L, R, AL, last_place, row_width, is_strong}
 use Rattle.rules.specs.Weak.{change_W2, change_W3, change_W6, change_W7, is_side}

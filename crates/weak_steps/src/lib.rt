@@ -1,7 +1,8 @@
 // What the rules make of one type: W1, W4 and W5 by their tests. W2 with W3, and W6 with W7, carry a strong type along and
 // go by tables: which class comes next cannot be foreseen, and a wrong guess at a branch costs more than the rule.
-ghost use Rattle.std.specs.Prelude.{◌≡◌, eqb, ◌≤◌};
-ghost use Rattle.laws.specs.Choice.{if◌then◌else◌};
+#![tactic(auto)]
+
+ghost use Rattle.std.specs.Prelude.{◌≡◌, eqb, ◌≤◌, if◌then◌else◌};
 ghost use Rattle.rules.specs.Classes.{ET, row_width};
 ghost use Rattle.rules.specs.Weak.{change_W1, change_W4, change_W5};
 ghost use Rattle.weak_steps.specs.Tables.{early, late, changed, carried};

@@ -1,5 +1,6 @@
 -- The laws of words: a word is compared with a name place by place, and looked for among names in rows.
 -- Assumes nothing.
+use Rattle.std.specs.Prelude.{if◌then◌else◌}
 use Prim.Native.Nat.{ℕ, ◌+◌, ◌-◌, ◌≤◌, ◌<◌}
 use native.Mathlib.Omega.{arith}
 use mathlib.Core.Path.{◌≡◌, refl, sym, ap, ◌∙◌}
@@ -12,7 +13,6 @@ use borrow.Author.Tests.{eq-eqb, ne_eqb}
 use Rattle.laws.proofs.Lists.{drop_next}
 use Rattle.laws.proofs.Passes.{by_test}
 use Rattle.laws.proofs.Tests.{known}
-use Rattle.laws.specs.Choice.{if◌then◌else◌}
 use Rattle.words.specs.Words.{space, to_first, first_part, parts_at, same_word, place_among}
 use Rattle.words.specs.Rows.{name_in, names_in}
 use Rattle.words.proofs.PartLaws.{parts_nil, parts_here, parts_on}

@@ -1,6 +1,5 @@
 -- How the printing program reads its input: lines, the words of a line, and what each word names.
-use Rattle.std.specs.Prelude.{ℕ, ◌+◌, Bool, true, false, ◌&&◌, List, [], ◌∷◌, map, eqb, length, get_or, drop}
-use Rattle.laws.specs.Choice.{if◌then◌else◌}
+use Rattle.std.specs.Prelude.{ℕ, ◌+◌, Bool, true, false, ◌&&◌, List, [], ◌∷◌, map, eqb, length, get_or, drop, if◌then◌else◌}
 
 -- the bytes that end a line and stand between words
 abbrev pub line_feed : ℕ

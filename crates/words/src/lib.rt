@@ -1,4 +1,6 @@
 // Reads the printing program's input: where a line or a word ends, what a word names, and what a line asks.
+#![tactic(auto)]
+
 ghost use Rattle.std.specs.Prelude.{◌≡◌};
 ghost use Rattle.words.specs.Words.{part_end, request_of, fallback_of};
 ghost use Rattle.words.specs.Read.{ClassesRead};

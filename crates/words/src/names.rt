@@ -60,7 +60,7 @@ pub fn class_named(word: &[u8]) -> u8
 }
 
 // What a line's first word asks: a request, and the default that goes with it.
-#[derive(Drop)]
+#[derive(Clone, Copy)]
 pub struct Asked {
     pub request: u8,
     pub fallback: u8,

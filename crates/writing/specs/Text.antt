@@ -1,6 +1,5 @@
 -- What the printing program writes: numbers, and rows of a name and numbers; and what putting a text into a lent buffer does.
-use Rattle.std.specs.Prelude.{ℕ, zero, suc, ◌+◌, ◌/◌, ◌%◌, min, ◌≡◌, List, [], ◌∷◌, ◌++◌, eqb, ltb, length, set}
-use Rattle.laws.specs.Choice.{if◌then◌else◌}
+use Rattle.std.specs.Prelude.{ℕ, zero, suc, ◌+◌, ◌/◌, ◌%◌, min, ◌≡◌, List, [], ◌∷◌, ◌++◌, eqb, ltb, length, set, if◌then◌else◌}
 use Rattle.rules.specs.Explicit.{removed_level}
 use Rattle.words.specs.Words.{space, line_feed}
 

@@ -1,0 +1,25 @@
+-- `printing::put_resolved` meets its contract: the checks found nothing wrong, so Order does not refuse, and its buffer begins with the order.
+-- Assumes nothing.
+use mathlib.Core.Path.{sym, ap}
+use lib.Seq.{length-take-le}
+use Rattle.rules.proofs.SoundLaws.{line_sound}
+use Rattle.melvorash.specs.Answers.{order_page}
+use Rattle.writing.proofs.TextLaws.{puts_same}
+use Rattle.printing.specs.Printing.{paragraph_rows}
+use Rattle.printing.proofs.TextLaws.{order_not_refused, order_within, order_front}
+use Rattle.printing.proofs.put_resolved.Goals as goal
+
+pub slice_bounds-put_rows-end : goal.slice_bounds-put_rows-end
+slice_bounds-put_rows-end c = sym (length-take-le _ _ (line_sound _ _ _ _ _ _ c.requires).order.fits)
+
+pub slice_bounds-put_rows-end-in-Ordered : goal.slice_bounds-put_rows-end-in-Ordered
+slice_bounds-put_rows-end-in-Ordered c = order_within c.requires c.order_line-answer.ensures (ap order_page c.in-Ordered.is)
+
+pub slice_bounds-put_rows-end-in-Ordered-2 : goal.slice_bounds-put_rows-end-in-Ordered-2
+slice_bounds-put_rows-end-in-Ordered-2 c = sym (length-take-le _ _ (order_within c.requires c.order_line-answer.ensures (ap order_page c.in-Ordered.is)))
+
+pub returns-in-Refused : goal.returns-in-Refused
+returns-in-Refused c = absurd (order_not_refused c.requires c.order_line-answer.ensures (ap order_page c.in-Refused.is))
+
+pub returns-in-Ordered : goal.returns-in-Ordered
+returns-in-Ordered c = puts_same (ap (paragraph_rows _ _) (order_front c.requires c.order_line-answer.ensures (ap order_page c.in-Ordered.is))) c.put_rows.ensures

@@ -1,0 +1,16 @@
+-- `reset::reset` meets its contract. The invariant: from position i on the line is reset. The measure is the number of positions left.
+-- Assumes nothing.
+use Rattle.reset.proofs.ResetLaws.{begun, next, ended}
+use borrow.Author.Rules.{rules}
+use Rattle.reset.proofs.reset.Goals as goal
+
+pub loop-i-init : goal.loop-i-init
+loop-i-init c = begun _ _ _ _
+
+pub loop-i-preserved : goal.loop-i-preserved
+loop-i-preserved c =
+    next _ _ _ _ _ _ (search rules) (search rules) _ _ _ _ _ c.loop-i-test.true c.loop-i.invariant
+    c.byte_at-class.ensures c.byte_at-level.ensures c.step-stepped.ensures c.put_byte.ensures
+
+pub returns : goal.returns
+returns c = ended _ _ _ _ _ _ (search rules) (search rules) _ c.loop-i-test.false c.loop-i.invariant
