@@ -1,1 +1,2 @@
 mod LineLaws
+mod OutputLaws

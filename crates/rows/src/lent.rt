@@ -1,5 +1,6 @@
 // What a lent buffer holds before a call, and whether a call left it so.
 use crate::say;
+use std::io;
 
 pub(crate) const LEVEL: u8 = 77;
 
@@ -27,21 +28,22 @@ fn all_places(order: &[u16], from: usize) -> bool {
     true
 }
 
-fn say_unless(same: bool) {
+fn say_unless(rt: &impl Print, same: bool) -> io::Result<()> {
     if !same {
-        say::text(b" not");
+        return say::text(rt, b" not");
     }
+    Ok(())
 }
 
-pub(crate) fn levels(levels: &[u8]) {
-    say::text(b", levels");
-    say_unless(all_levels(levels));
-    say::text(b" as they were");
+pub(crate) fn levels(rt: &impl Print, levels: &[u8]) -> io::Result<()> {
+    say::text(rt, b", levels")?;
+    say_unless(rt, all_levels(levels))?;
+    say::text(rt, b" as they were")
 }
 
 // An order from a place on.
-pub(crate) fn places(name: &[u8], order: &[u16], from: usize) {
-    say::text(name);
-    say_unless(all_places(order, from));
-    say::text(b" as it was");
+pub(crate) fn places(rt: &impl Print, name: &[u8], order: &[u16], from: usize) -> io::Result<()> {
+    say::text(rt, name)?;
+    say_unless(rt, all_places(order, from))?;
+    say::text(rt, b" as it was")
 }

@@ -2,24 +2,27 @@
 // or four for an order.
 use crate::tell;
 use melvorash_c::{Answer, OrderAnswer};
+use std::io;
 use words::Asked;
 
 // Each letter is a job. An order goes by the base that was answered before it, or else by the row's own.
 pub(crate) fn jobs(
+    rt: &impl Print,
     jobs: &[u8],
     classes: &[u8],
     levels: &mut [u8],
     order: &mut [u16],
     asked: Asked,
     ends: &[u16],
-) {
+) -> io::Result<()> {
     let mut base = asked.request;
     let mut i = 0;
     while i < jobs.len() {
         let answer = called(jobs[i], classes, levels, order, asked, base, ends);
-        base = tell::answer(jobs[i], answer, classes, levels, order);
+        base = tell::answer(rt, jobs[i], answer, classes, levels, order)?;
         i += 1;
     }
+    Ok(())
 }
 
 fn called(

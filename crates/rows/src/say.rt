@@ -1,61 +1,65 @@
 // Writing to standard output.
+use std::io;
 
-pub(crate) fn text(bytes: &[u8]) {
-    io::write_all(libc::STDOUT_FILENO, bytes);
+pub(crate) fn text(rt: &impl Print, bytes: &[u8]) -> io::Result<()> {
+    rt.write_all(bytes)
 }
 
 // A number behind a space.
-pub(crate) fn number(n: usize) {
-    text(b" ");
-    io::print_decimal(libc::STDOUT_FILENO, n as u64);
+pub(crate) fn number(rt: &impl Print, n: usize) -> io::Result<()> {
+    text(rt, b" ")?;
+    rt.print(n)
 }
 
-pub(crate) fn named(name: &[u8], n: usize) {
-    text(name);
-    number(n);
+pub(crate) fn named(rt: &impl Print, name: &[u8], n: usize) -> io::Result<()> {
+    text(rt, name)?;
+    number(rt, n)
 }
 
 // A byte, or a dash for the level of a removed position.
-fn byte(n: u8, dash: u16) {
+fn byte(rt: &impl Print, n: u8, dash: u16) -> io::Result<()> {
     if n as u16 == dash {
-        text(b" -");
-        return;
+        return text(rt, b" -");
     }
-    number(n as usize);
+    number(rt, n as usize)
 }
 
-fn wide(n: u16) {
-    number(n as usize);
+fn wide(rt: &impl Print, n: u16) -> io::Result<()> {
+    number(rt, n as usize)
 }
 
 // Past the end there is none.
-fn byte_at(bytes: &[u8], i: usize, dash: u16) {
+fn byte_at(rt: &impl Print, bytes: &[u8], i: usize, dash: u16) -> io::Result<()> {
     if i < bytes.len() {
-        byte(bytes[i], dash);
+        return byte(rt, bytes[i], dash);
     }
+    Ok(())
 }
 
-fn place_at(order: &[u16], i: usize) {
+fn place_at(rt: &impl Print, order: &[u16], i: usize) -> io::Result<()> {
     if i < order.len() {
-        wide(order[i]);
+        return wide(rt, order[i]);
     }
+    Ok(())
 }
 
 // The first n bytes.
-pub(crate) fn bytes(bytes: &[u8], n: usize, dash: u16) {
+pub(crate) fn bytes(rt: &impl Print, bytes: &[u8], n: usize, dash: u16) -> io::Result<()> {
     let mut i = 0;
     while i < n {
-        byte_at(bytes, i, dash);
+        byte_at(rt, bytes, i, dash)?;
         i += 1;
     }
+    Ok(())
 }
 
 // The places of an order from one to another.
-pub(crate) fn order(order: &[u16], from: usize, to: usize) {
-    text(b" order");
+pub(crate) fn order(rt: &impl Print, order: &[u16], from: usize, to: usize) -> io::Result<()> {
+    text(rt, b" order")?;
     let mut i = from;
     while i < to {
-        place_at(order, i);
+        place_at(rt, order, i)?;
         i += 1;
     }
+    Ok(())
 }

@@ -1,6 +1,7 @@
 // Tells what a job answered and what it left in the lent buffers.
 use crate::{lent, say};
 use melvorash_c::OrderAnswer;
+use std::io;
 
 // The base that an order is given where the levels were refused, for it to refuse too.
 const NO_BASE: u8 = 255;
@@ -10,115 +11,138 @@ const NO_DASH: u16 = 256;
 
 // Answers the base for an order that follows.
 pub(crate) fn answer(
+    rt: &impl Print,
     job: u8,
     answer: OrderAnswer,
     classes: &[u8],
     levels: &[u8],
     order: &[u16],
-) -> u8 {
+) -> io::Result<u8> {
     if job == b'M' {
-        listed(classes, levels);
+        listed(rt, classes, levels)?;
     }
     if answer.refusal > 0 {
-        say::text(b" refused");
-        say::number(answer.refusal);
-        say::number(answer.place);
-        stray(answer.value);
-        stray(answer.reversed);
-        left(job, classes, levels, order);
-        return NO_BASE;
+        refused(rt, answer)?;
+        left(rt, job, classes, levels, order)?;
+        return Ok(NO_BASE);
     }
-    accepted(job, answer.value, answer.reversed, classes, levels, order);
-    (answer.value % 256) as u8
+    accepted(
+        rt,
+        job,
+        answer.value,
+        answer.reversed,
+        classes,
+        levels,
+        order,
+    )?;
+    Ok((answer.value % 256) as u8)
+}
+
+fn refused(rt: &impl Print, answer: OrderAnswer) -> io::Result<()> {
+    say::text(rt, b" refused")?;
+    say::number(rt, answer.refusal)?;
+    say::number(rt, answer.place)?;
+    stray(rt, answer.value)?;
+    stray(rt, answer.reversed)
 }
 
 // A refusal's value and count are 0; any other is shown.
-fn stray(number: usize) {
+fn stray(rt: &impl Print, number: usize) -> io::Result<()> {
     if number > 0 {
-        say::named(b", with", number);
+        return say::named(rt, b", with", number);
     }
+    Ok(())
 }
 
-fn listed(classes: &[u8], flags: &[u8]) {
-    say::text(b" classes");
-    say::bytes(classes, classes.len(), NO_DASH);
-    say::text(b" flags");
-    say::bytes(flags, flags.len(), NO_DASH);
+fn listed(rt: &impl Print, classes: &[u8], flags: &[u8]) -> io::Result<()> {
+    say::text(rt, b" classes")?;
+    say::bytes(rt, classes, classes.len(), NO_DASH)?;
+    say::text(rt, b" flags")?;
+    say::bytes(rt, flags, flags.len(), NO_DASH)
 }
 
 // What a refused job left: an empty part, or the buffer as it was.
-fn left(job: u8, classes: &[u8], levels: &[u8], order: &[u16]) {
+fn left(rt: &impl Print, job: u8, classes: &[u8], levels: &[u8], order: &[u16]) -> io::Result<()> {
     if job == b'C' {
-        return part(melvorash::cut_part(classes));
+        return part(rt, melvorash::cut_part(classes));
     }
     if job == b'E' {
-        return lent::levels(levels);
+        return lent::levels(rt, levels);
     }
     if job == b'R' {
-        return lent::levels(levels);
+        return lent::levels(rt, levels);
     }
     if job == b'O' {
-        return lent::places(b", order", order, 0);
+        return lent::places(rt, b", order", order, 0);
     }
     if job == b'A' {
-        return lent::places(b", order", order, 0);
+        return lent::places(rt, b", order", order, 0);
     }
     if job == b'M' {
-        return lent::places(b", the rest", order, 0);
+        return lent::places(rt, b", the rest", order, 0);
     }
     if job == b'D' {
-        return lent::places(b", the rest", order, 0);
+        return lent::places(rt, b", the rest", order, 0);
     }
+    Ok(())
 }
 
-fn accepted(job: u8, value: usize, reversed: usize, classes: &[u8], levels: &[u8], order: &[u16]) {
+fn accepted(
+    rt: &impl Print,
+    job: u8,
+    value: usize,
+    reversed: usize,
+    classes: &[u8],
+    levels: &[u8],
+    order: &[u16],
+) -> io::Result<()> {
     if job == b'B' {
-        return say::named(b" base", value);
+        return say::named(rt, b" base", value);
     }
     if job == b'C' {
-        say::named(b" length", value);
-        return part(melvorash::cut_part(classes));
+        say::named(rt, b" length", value)?;
+        return part(rt, melvorash::cut_part(classes));
     }
     if job == b'E' {
-        return based(value, levels, classes.len());
+        return based(rt, value, levels, classes.len());
     }
     if job == b'R' {
-        return based(value, levels, classes.len());
+        return based(rt, value, levels, classes.len());
     }
     if job == b'Q' {
-        return;
+        return Ok(());
     }
     if job == b'M' {
-        say::order(order, 0, value);
-        return lent::places(b", the rest", order, value);
+        say::order(rt, order, 0, value)?;
+        return lent::places(rt, b", the rest", order, value);
     }
     if job == b'D' {
-        say::named(b" drawn", value);
-        return lent::places(b", the rest", order, value);
+        say::named(rt, b" drawn", value)?;
+        return lent::places(rt, b", the rest", order, value);
     }
-    placed(job, value, order);
-    say::named(b", reversed", reversed);
+    placed(rt, job, value, order)?;
+    say::named(rt, b", reversed", reversed)
 }
 
-fn based(base: usize, levels: &[u8], n: usize) {
-    say::named(b" base", base);
-    say::text(b" levels");
-    say::bytes(levels, n, classes::REMOVED_LEVEL as u16);
+fn based(rt: &impl Print, base: usize, levels: &[u8], n: usize) -> io::Result<()> {
+    say::named(rt, b" base", base)?;
+    say::text(rt, b" levels")?;
+    say::bytes(rt, levels, n, classes::REMOVED_LEVEL as u16)
 }
 
 // How long the part that Cut gives is, and its first four classes.
-fn part(part: &[u8]) {
-    say::named(b", part", part.len());
-    say::text(b":");
-    say::bytes(part, 4, NO_DASH);
+fn part(rt: &impl Print, part: &[u8]) -> io::Result<()> {
+    say::named(rt, b", part", part.len())?;
+    say::text(rt, b":")?;
+    say::bytes(rt, part, 4, NO_DASH)
 }
 
 // The positions of an order; for T how many there are, the last place and the one after.
-fn placed(job: u8, count: usize, order: &[u16]) {
+fn placed(rt: &impl Print, job: u8, count: usize, order: &[u16]) -> io::Result<()> {
     if job == b'T' {
-        say::named(b" ordered", count);
-        say::text(b", the last place and the one after:");
-        return say::order(order, classes::LONGEST - 1, classes::LONGEST + 1);
+        say::named(rt, b" ordered", count)?;
+        say::text(rt, b", the last place and the one after:")?;
+        return say::order(rt, order, classes::LONGEST - 1, classes::LONGEST + 1);
     }
-    say::order(order, 0, count);
+    say::order(rt, order, 0, count)
 }
