@@ -5,7 +5,7 @@
 want_evidence() {
     mkdir -p "$1"
     want_callers "$1" || return
-    [ -f "$LIBRARY/libmelvorash_c.a" ] || { echo 'rt staticlib melvorash_c has to come first'; return 1; }
+    [ -f "$LIBRARY/libmelvorash_c.a" ] || { echo 'scripts/build library has to come first'; return 1; }
     export MELVORASH_LIB=$LIBRARY RUSTFLAGS='-D warnings' CARGO_TARGET_DIR=${CARGO_TARGET_DIR:-$1}
     quietly in_cargo tests/evidence build --release || return
     EVIDENCE=("${RUN[@]}" "$CARGO_TARGET_DIR/$RUST_TARGET/release/evidence")

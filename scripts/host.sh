@@ -1,10 +1,9 @@
 # What builds and runs programs for x86-64 Linux here, where the library's archive belongs; to be sourced by bash.
-# On an x86-64 machine that is gcc and cargo. On any other it is Debian's cross compiler, a Rust that has the x86-64
-# standard library, and the emulator of qemu-user. What is missing is installed by apt-get where this runs as root,
-# and else named.
+# On an x86-64 machine, as which the toolchain's own programs run, that is gcc and cargo. On any other it is Debian's
+# cross compiler, a Rust that has the x86-64 standard library, and the emulator of qemu-user. What is missing is
+# installed by apt-get where this runs as root, and else named.
 #
-#   want_runner     sets RUN, the words before a program of rt's that is to be run
-#   want_emulator   the same for any program
+#   want_runner     sets RUN, the words before an x86-64 program that is to be run
 #   want_compiler   sets CC
 #   want_cargo      sets CARGO, and in the environment what cargo needs to build and run for RUST_TARGET
 #   want_callers    all three, and LIBRARY, the folder of the archive to link
@@ -36,24 +35,13 @@ install_packages() {
     quietly apt-get update && quietly apt-get install -y --no-install-recommends "$@"
 }
 
-# The toolchain's folder for this kind of machine.
+# The toolchain's folder.
 toolchain() {
-    echo "$(dirname "$(dirname "$(readlink -f "$(command -v rt)")")")/on/$(uname -m)/toolchain"
+    dirname "$(dirname "$(readlink -f "$(command -v rt)")")"
 }
 
-# The emulator and the C library of the toolchain, with which rt runs its programs too.
+# The emulator takes loader and C library from one place: of two versions of one C library it would mix them.
 want_runner() {
-    RUN=()
-    is_x86_64 && return
-    local tools
-    tools=$(toolchain)
-    RUN=("$tools/bin/qemu-x86_64" "$tools/lib/ld-linux-x86-64.so.2" --library-path "$tools/lib")
-    [ -x "${RUN[0]}" ] || { echo 'the toolchain has no emulator for x86-64 programs' >&2; return 1; }
-}
-
-# The toolchain's emulator does not run every program. This one takes loader and C library from one place: of two
-# versions of one C library it would mix them.
-want_emulator() {
     RUN=()
     is_x86_64 && return
     has qemu-x86_64 || install_packages qemu-user || return
@@ -87,7 +75,7 @@ install_rust() {
 
 # The rustc on the path, or Debian's where only that one has what is needed.
 want_cargo() {
-    want_compiler && want_emulator || return
+    want_compiler && want_runner || return
     CARGO=cargo
     if ! builds_for_target rustc; then
         builds_for_target /usr/bin/rustc || install_rust || return
@@ -109,16 +97,16 @@ in_cargo() {
 # module_for_here FOLDER: the archive as it would be for this machine, which is not x86-64: the LLVM module that the
 # archive is made of, compiled for here. rt is lent a copy of its toolchain whose clang keeps what it is given.
 module_for_here() {
-    local folder=$1 home tools
-    tools=$(toolchain)
-    home=$(dirname "$(dirname "$(dirname "$tools")")")
+    local folder=$1 home
+    home=$(toolchain)
     cp -as "$home" "$folder/kit"
-    rm "$folder/kit/on/$(uname -m)/toolchain/bin/clang"
+    cp --remove-destination "$home/bin/rt" "$home/bin/rtlib.py" "$folder/kit/bin"
+    rm "$folder/kit/toolchain/bin/clang"
     printf '#!/bin/sh\nfor word; do case $word in *.bc) cp "$word" "%s/module.bc" ;; esac; done\nexec "%s" "$@"\n' \
-        "$folder" "$tools/bin/clang" >"$folder/kit/on/$(uname -m)/toolchain/bin/clang"
-    chmod +x "$folder/kit/on/$(uname -m)/toolchain/bin/clang"
-    RATTLE_HOME=$folder/kit quietly rt staticlib melvorash_c || return
-    quietly "$tools/bin/clang" --target="$(uname -m)-unknown-linux-gnu" -Wno-override-module -O3 -fPIC -c -x ir \
+        "$folder" "$home/toolchain/bin/clang" >"$folder/kit/toolchain/bin/clang"
+    chmod +x "$folder/kit/toolchain/bin/clang"
+    (cd crates/melvorash_c_c && quietly "$folder/kit/bin/rt" lib) || return
+    quietly "$home/toolchain/bin/clang" --target="$(uname -m)-unknown-linux-gnu" -Wno-override-module -O3 -fPIC -c -x ir \
         "$folder/module.bc" -o "$folder/module.o" || return
     objcopy $(printf -- '--redefine-sym melvorash_%s ' cut=module_cut base=module_base explicit=module_explicit \
         resolve=module_resolve order_line=module_order_line order_lines=module_order_lines marks=module_marks) \

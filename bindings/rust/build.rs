@@ -1,5 +1,5 @@
 //! Links the archive `libmelvorash_c.a` from the folder that MELVORASH_LIB names, else from where
-//! `rt staticlib melvorash_c` writes it.
+//! `scripts/build library` writes it.
 use std::env;
 use std::path::{Path, PathBuf};
 
