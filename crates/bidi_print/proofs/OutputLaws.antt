@@ -1,5 +1,5 @@
 -- What the program's loop has written: a line's output behind that of the lines before it. Assumes nothing.
-use Rattle.std.proofs.Common.{◌≡◌, ℕ, ◌+◌, ◌-◌, ◌<◌, ◌≤◌, List, [], ◌++◌, length, take, drop, Option, None, Some, IfSome, OnOk, Ok, Err, refl, sym, ap, subst, ◌∙◌}
+use Rattle.std.proofs.Common.{◌≡◌, ℕ, ◌+◌, ◌-◌, ◌<◌, ◌≤◌, List, ◌++◌, length, take, drop, Option, None, Some, IfSome, OnOk, Ok, Err, sym, ap, subst, ◌∙◌}
 use Rattle.std.specs.declared.result.Result.{Result}
 use Rattle.std.proofs.lemmas.List.{append-nil, append_assoc}
 use Rattle.std.proofs.Math.Seq.{take-append_seam}
@@ -8,11 +8,7 @@ use Rattle.words.specs.Words.{line_feed, part_end, lines_of}
 use Rattle.printing.specs.Printing.{line_text, text_of_all, most_input, output_of, most_output, printed, Prints}
 use Rattle.printing.proofs.OutputTheorems.{output_next, output_ended}
 
--- nothing was written, and one text behind another
-pub then_none : (first : Option (List ℕ)) → Appends first first []
-then_none None = tt
-then_none (Some bytes) = sym (append-nil bytes)
-
+-- one text behind another
 pub then_written : (first second third : Option (List ℕ)) (xs ys : List ℕ) → Appends first second xs → Appends second third ys → Appends first third (xs ++ ys)
 then_written None second third xs ys a b = tt
 then_written (Some bytes) None third xs ys a b = elim a [ ]
@@ -34,9 +30,6 @@ pub record Printed (first now : Option (List ℕ)) (input : List ℕ) (from : �
   pub text : List ℕ
   pub written : Appends first now text
   pub whole : text_of_all (lines_of input) ≡ text ++ text_of_all (lines_of (drop from input))
-
-pub printed_none : (first : Option (List ℕ)) (input : List ℕ) → Printed first first input 0
-printed_none first input = record { text = []; written = then_none first; whole = refl }
 
 pub printed_line : (first now next : Option (List ℕ)) (input line : List ℕ) (from end : ℕ) → Printed first now input from → from < length input → end ≡ part_end line_feed input from → Appends now next line → line ≡ line_text (take (end - from) (drop from input)) → Printed first next input (end + 1)
 printed_line first now next input line from end so_far within e more is =

@@ -14,7 +14,7 @@
 -- Document 02 moves some of this: class CR and the pair (Classes.CR, Paragraph.is_pair, Refusals.may_end), the default of a
 -- base that the text does not decide (Paragraph.or_else, base_of, Refusals.check_request), and the count that Order answers
 -- beside how many positions it placed (Reversals, Jobs.Placing).
--- The words on lists that these are written in (if, over, part, stretches and the like) are in laws/specs.
+-- The words on lists that these are written in (over, part, stretches and the like) are in laws/specs; if is the library's.
 -- Refusals has the eleven refusals and each job's order of checks, Jobs what each job answers and leaves in its buffer,
 -- Table the eleven rows of document 01 that are proved, Examples the worked drawing orders.
 pub mod Classes

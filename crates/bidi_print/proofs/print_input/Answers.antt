@@ -1,3 +1,4 @@
+-- `bidi_print::print_input` meets its contract: the lines of the bytes that were read are those of the output. Assumes nothing.
 use Rattle.bidi_print.proofs.OutputLaws.{start_printed}
 use Rattle.bidi_print.proofs.print_input.Goals as goal
 

@@ -1,3 +1,4 @@
+-- `bidi_print::print_lines` meets its contract: each line's output stands behind that of the lines before it. Assumes nothing.
 use Rattle.std.proofs.Common.{◌∙◌}
 use Rattle.bidi_print.proofs.LineLaws.{line_within, less_left}
 use Rattle.bidi_print.proofs.OutputLaws.{front_is, printed_line, printed_all}

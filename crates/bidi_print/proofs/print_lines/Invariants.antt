@@ -1,3 +1,4 @@
+-- The measure is what is left of the input. Assumes nothing.
 use Rattle.std.proofs.Common.{◌-◌, ◌≡◌, length}
 use Rattle.printing.specs.Printing.{most_output}
 use Rattle.bidi_print.proofs.OutputLaws.{Printed}

@@ -1,3 +1,4 @@
+-- `reading::read_start` meets its contract: one read behind another. Assumes nothing.
 use Rattle.std.proofs.Common.{◌-◌, length, arith}
 use Rattle.reading.proofs.StartLaws.{take_read, then_read}
 use borrow.Rule.Slice.PartMut.{same_len_mid}

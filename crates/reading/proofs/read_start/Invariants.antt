@@ -1,3 +1,4 @@
+-- The measure is the room that is left. Assumes nothing.
 use Rattle.std.proofs.Common.{◌≤◌, ◌-◌, length, take}
 use Rattle.std.specs.Io.KnownBytes.{Consumes}
 use Rattle.reading.proofs.read_start.Given as goal
