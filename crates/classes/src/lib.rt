@@ -1,6 +1,6 @@
 // The classes by name, and each question that the rules ask of a class: one function for each test
 // of the definitions. Other code compares names; where it goes by their numbers, in a table or a range, a law says why.
-#![tactic(auto)]
+#![tactic(auto, using(laws::proofs::Tests::tests), unfolding(rules::specs::Classes::is_unknown, rules::specs::Classes::is_paragraph_end, rules::specs::Classes::is_opening, rules::specs::Classes::is_removed, rules::specs::Classes::is_strong, rules::specs::Classes::is_neutral, rules::specs::Classes::is_separator, rules::specs::Classes::is_blank))]
 
 ghost use Rattle.std.specs.Prelude.{◌≡◌, ◌<◌, min};
 ghost use Rattle.rules.specs.Classes.{is_unknown, is_paragraph_end, is_opening, is_removed, is_strong, is_neutral, is_separator, is_blank, last_place, row_width};
@@ -70,73 +70,37 @@ pub fn is_unknown(c: u8) -> bool
 pub fn is_paragraph_end(c: u8) -> bool
     ensures { result ≡ is_paragraph_end c }
 {
-    if c == B {
-        return true;
-    }
-    c == CR
+    matches!(c, B | CR)
 }
 
 pub fn is_opening(c: u8) -> bool
     ensures { result ≡ is_opening c }
 {
-    if c == LRE {
-        return true;
-    }
-    if c == LRO {
-        return true;
-    }
-    if c == RLE {
-        return true;
-    }
-    c == RLO
+    matches!(c, LRE | LRO | RLE | RLO)
 }
 
 pub fn is_removed(c: u8) -> bool
     ensures { result ≡ is_removed c }
 {
-    if is_opening(c) {
-        return true;
-    }
-    if c == PDF {
-        return true;
-    }
-    c == BN
+    is_opening(c) || matches!(c, PDF | BN)
 }
 
 pub fn is_strong(c: u8) -> bool
     ensures { result ≡ is_strong c }
 {
-    if c == L {
-        return true;
-    }
-    if c == R {
-        return true;
-    }
-    c == AL
+    matches!(c, L | R | AL)
 }
 
 pub fn is_neutral(c: u8) -> bool
     ensures { result ≡ is_neutral c }
 {
-    if is_paragraph_end(c) {
-        return true;
-    }
-    if c == S {
-        return true;
-    }
-    if c == WS {
-        return true;
-    }
-    c == ON
+    is_paragraph_end(c) || matches!(c, S | WS | ON)
 }
 
 pub fn is_separator(c: u8) -> bool
     ensures { result ≡ is_separator c }
 {
-    if c == S {
-        return true;
-    }
-    is_paragraph_end(c)
+    c == S || is_paragraph_end(c)
 }
 
 pub fn is_blank(c: u8) -> bool
@@ -150,8 +114,5 @@ pub fn place_of(c: u8) -> usize
     ensures value { result ≡ min c last_place }
     ensures upper_bound { result < row_width }
 {
-    if c <= HIGHEST {
-        return c as usize;
-    }
-    ROW_WIDTH - 1
+    usize::from(c.min(HIGHEST + 1))
 }

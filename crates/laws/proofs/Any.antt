@@ -5,8 +5,9 @@ use Prim.Native.Nat.{ℕ, ◌+◌, ◌≤◌, ◌<◌}
 use native.Mathlib.Omega.{arith}
 use mathlib.Core.Bool.{Bool, true, false, ◌||◌}
 use mathlib.Core.Path.{◌≡◌, refl, sym, ap, ◌∙◌}
-use mathlib.Core.List.{List, ◌∷◌}
+use mathlib.Core.List.{List, [], ◌∷◌}
 use lib.ListN.{length, get_or, drop, drop_of_length-le}
+use Rattle.std.specs.List.{fold}
 use Rattle.laws.specs.Any.{any_of, any_pair}
 use Rattle.laws.proofs.Lists.{drop_next}
 
@@ -43,6 +44,15 @@ pub any_done : (test : ℕ → Bool) (xs : List ℕ) (i : ℕ) (found : Bool) �
 unfolding any_of
 any_done test xs i found past now =
     sym (or_false found) ∙ ap (λ (r : List ℕ). found || any_of test r) (sym (drop_of_length-le xs past)) ∙ now
+
+-- found by a fold that looks at every element
+fold_from : (test : ℕ → Bool) (xs : List ℕ) (found : Bool) → fold (λ (found : Bool) (x : ℕ). found || test x) found xs ≡ (found || any_of test xs)
+unfolding any_of
+fold_from test [] found = sym (or_false found)
+fold_from test (x ∷ xs) found = fold_from test xs (found || test x) ∙ or_assoc found (test x) (any_of test xs)
+
+pub fold_any : (test : ℕ → Bool) (xs : List ℕ) → fold (λ (found : Bool) (x : ℕ). found || test x) false xs ≡ any_of test xs
+fold_any test xs = fold_from test xs false
 
 -- ---- the same over two lists, place by place, up to where either ends
 pub no_pair_first : (test : ℕ → ℕ → Bool) (x y : ℕ) (xs ys : List ℕ) → any_pair test (x ∷ xs) (y ∷ ys) ≡ false → (test x y ≡ false) × (any_pair test xs ys ≡ false)

@@ -1,38 +1,35 @@
 // What the passes of several crates share, over plain slices.
 #![tactic(auto)]
 
-ghost use Rattle.std.specs.Prelude.{◌≡◌, ◌||◌, ◌≤◌, length, get_or, replicate};
+ghost use Rattle.std.specs.Prelude.{◌≡◌, ℕ, Bool, ◌≤◌, length, get_or, replicate};
 ghost use Rattle.rules.specs.Classes.{is_removed};
 ghost use Rattle.laws.specs.Parts.{over};
 ghost use Rattle.laws.specs.Any.{any_of};
+ghost use Rattle.laws.specs.Stretches.{span};
+ghost use Rattle.parts.specs.Computes.{Computes};
 
 // So many positions are worked on in a small buffer: a label does not pay for the longest paragraph.
 pub const SHORT: usize = 64;
+
+// The types at the two sides of a run: at its start and at its end.
+#[derive(Clone, Copy, Debug, PartialEq, Eq)]
+pub struct Sides {
+    pub sor: u8,
+    pub eor: u8,
+}
 
 // The element at `i`; past the end, what stands there: for the types of a run its end type, for levels the base.
 pub fn element_or(types: &[u8], i: usize, end: u8) -> u8
     ensures { result ≡ get_or types.now i end }
 {
-    if i < types.len() {
-        return types[i];
-    }
-    end
+    types.get(i).copied().unwrap_or(end)
 }
 
-// Takes the part alone, so that it asks nothing of its caller. Most parts are one place long: the first is written by
-// itself, so that the loop, which becomes a call that fills memory, is spared.
+// Takes the part alone, so that it asks nothing of its caller.
 pub fn fill(part: &mut [u8], t: u8)
     ensures { part.new ≡ replicate (length part.old) t }
 {
-    if part.len() == 0 {
-        return;
-    }
-    part[0] = t;
-    let mut i = 1;
-    while i < part.len() {
-        part[i] = t;
-        i += 1;
-    }
+    part.fill(t);
 }
 
 // The rest of the longer one stays as it was.
@@ -40,33 +37,37 @@ pub fn copy(from: &[u8], to: &mut [u8])
     requires { length from.now ≤ length to.old }
     ensures { to.new ≡ over from.now to.old }
 {
-    let mut at: usize = 0;
-    while at < from.len() {
-        to[at] = from[at];
-        at += 1;
-    }
+    to[..from.len()].copy_from_slice(from);
 }
 
-// Both are known already, so that a loop over many places has no branch.
-pub fn either(a: bool, b: bool) -> bool
-    ensures { result ≡ (a || b) }
+// Whether any byte passes a test. It looks at every one: a walk that could stop at the first would read them one by one.
+pub fn any<F: Fn(u8) -> bool>(bytes: &[u8], passes: F) -> bool
+    requires { F.IsAlwaysCallable passes }
+    ensures { (test : ℕ → Bool) → Computes (F.post passes) test → result ≡ any_of test bytes.now }
 {
-    if a {
-        return true;
+    let mut found = false;
+    for byte in bytes {
+        found |= passes(*byte);
     }
-    b
+    found
 }
 
-// A paragraph or line without codes and BN is spared all that they ask for. It looks at every position: a loop that
-// could stop at the first would read them one by one.
+// A paragraph or line without codes and BN is spared all that they ask for.
 pub fn any_removed(classes: &[u8]) -> bool
     ensures { result ≡ any_of is_removed classes.now }
 {
-    let mut found = false;
-    let mut i: usize = 0;
-    while i < classes.len() {
-        found = either(found, classes::is_removed(classes[i]));
-        i += 1;
+    any(classes, classes::is_removed)
+}
+
+// How many types come first that belong to one stretch.
+pub fn leading<F: Fn(u8) -> bool>(types: &[u8], belongs: F) -> usize
+    requires { F.IsAlwaysCallable belongs }
+    ensures { (test : ℕ → Bool) → Computes (F.post belongs) test → result ≡ span test types.now }
+{
+    for (i, t) in types.iter().enumerate() {
+        if !belongs(*t) {
+            return i;
+        }
     }
-    found
+    types.len()
 }

@@ -1,0 +1,2 @@
+-- What a closure that a function of this crate is lent computes.
+pub mod Computes
