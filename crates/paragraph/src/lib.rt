@@ -1,10 +1,9 @@
 // The pair that P1 does not cut apart; and the base level of a paragraph: rules P2 and P3, the request that may stand in
 // their place, and the default for a text that decides nothing.
-#![tactic(auto)]
+#![tactic(auto, using(crate::proofs::BaseLaws::base_laws), unfolding(rules::specs::Paragraph::P3, rules::specs::Paragraph::base_by_text, rules::specs::Paragraph::base_of))]
 
 ghost use Rattle.std.specs.Prelude.{◌≡◌, ◌+◌, get_or, drop};
-ghost use Rattle.rules.specs.Paragraph.{is_pair, P2, P3, base_by_text, or_else, base_of};
-ghost use Rattle.paragraph.specs.Found.{found_of, decided_of};
+ghost use Rattle.rules.specs.Paragraph.{is_pair, P2, P3, base_by_text, base_of};
 
 // The request that leaves the base to the text.
 pub const BY_TEXT: u8 = 2;
@@ -13,73 +12,37 @@ pub const BY_TEXT: u8 = 2;
 pub fn is_pair(classes: &[u8], at: usize) -> bool
     ensures { result ≡ is_pair (get_or classes.now at 0) (drop (at + 1) classes.now) }
 {
-    if at < classes.len() {
-        if classes[at] == classes::CR {
-            return parts::element_or(classes, at + 1, classes::CR) == classes::B;
-        }
+    if classes.len() <= at {
+        return false;
     }
-    false
-}
-
-#[derive(Clone, Copy)]
-pub enum FirstStrong {
-    Class(u8),
-    Nothing,
+    classes[at] == classes::CR && parts::element_or(classes, at + 1, classes::CR) == classes::B
 }
 
 // P2. That nothing was found is an answer of its own, before a base is chosen.
-pub(crate) fn first_strong(classes: &[u8]) -> FirstStrong
-    ensures { found_of result ≡ P2 classes.now }
+pub(crate) fn first_strong(classes: &[u8]) -> Option<u8>
+    ensures { result ≡ P2 classes.now }
 {
-    let mut i = 0;
-    while i < classes.len() {
-        let class = classes[i];
-        if classes::is_strong(class) {
-            return FirstStrong::Class(class);
+    for class in classes {
+        if classes::is_strong(*class) {
+            return Some(*class);
         }
-        i += 1;
     }
-    FirstStrong::Nothing
-}
-
-// What the text says of its base level: nothing where it has no strong class.
-#[derive(Clone, Copy)]
-pub enum Decided {
-    Level(u8),
-    Nothing,
+    None
 }
 
 // P3.
-pub(crate) fn level_of(found: FirstStrong) -> Decided
-    ensures { decided_of result ≡ P3 (found_of found) }
+pub(crate) fn level_of(found: Option<u8>) -> Option<u8>
+    ensures { result ≡ P3 found }
 {
-    match found {
-        FirstStrong::Class(class) => {
-            if class == classes::R {
-                return Decided::Level(1);
-            }
-            if class == classes::AL {
-                return Decided::Level(1);
-            }
-            Decided::Level(0)
-        }
-        FirstStrong::Nothing => Decided::Nothing,
-    }
+    let class = found?;
+    Some(u8::from(matches!(class, classes::R | classes::AL)))
 }
 
-pub fn base_by_text(classes: &[u8]) -> Decided
-    ensures { decided_of result ≡ base_by_text classes.now }
+// What the text says of its base level: none where it has no strong class.
+pub fn base_by_text(classes: &[u8]) -> Option<u8>
+    ensures { result ≡ base_by_text classes.now }
 {
     level_of(first_strong(classes))
-}
-
-fn or_else(decided: Decided, fallback: u8) -> u8
-    ensures { result ≡ or_else (decided_of decided) fallback }
-{
-    match decided {
-        Decided::Level(level) => level,
-        Decided::Nothing => fallback,
-    }
 }
 
 // The base level that a request asks for: itself, or what the text says, or else the default.
@@ -87,7 +50,7 @@ pub fn base_of(request: u8, fallback: u8, classes: &[u8]) -> u8
     ensures { result ≡ base_of request fallback classes.now }
 {
     if request == BY_TEXT {
-        return or_else(base_by_text(classes), fallback);
+        return base_by_text(classes).unwrap_or(fallback);
     }
     request
 }

@@ -1,6 +1,5 @@
 -- The jobs: what each answers, and what it leaves in the buffer that it is lent.
-use Rattle.std.specs.Prelude.{ℕ, List, [], length}
-use Rattle.std.proofs.Math.Option.{Option}
+use Rattle.std.specs.Prelude.{ℕ, Option, List, [], length}
 use Rattle.laws.specs.Parts.{over}
 use Rattle.rules.specs.Paragraph.{P1, base_by_text, base_of}
 use Rattle.rules.specs.Explicit.{X1, explicit_levels}

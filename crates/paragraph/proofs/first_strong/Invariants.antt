@@ -1,13 +1,7 @@
--- `paragraph::first_strong` meets its contract: the invariant is that the first strong class from i on is the first of all.
--- Assumes nothing.
-use Prim.Native.Nat.{◌≤◌, ◌-◌}
-use mathlib.Core.Path.{◌≡◌}
-use lib.ListN.{length, drop}
+-- `paragraph::first_strong` meets its contract: the first strong class from a place on is the first of all. Assumes nothing.
+use Rattle.std.proofs.Common.{◌≡◌, drop}
 use Rattle.rules.specs.Paragraph.{P2}
 use Rattle.paragraph.proofs.first_strong.Given as goal
 
-abbrev pub invariant-loop-i : goal.invariant-loop-i
-invariant-loop-i l = (l.i ≤ length l.classes) × (P2 (drop l.i l.classes) ≡ P2 l.classes)
-
-abbrev pub decreases-loop-i : goal.decreases-loop-i
-decreases-loop-i l = length l.classes - l.i
+abbrev pub invariant-loop-class : goal.invariant-loop-class
+invariant-loop-class l = P2 (drop l.class-index l.classes) ≡ P2 l.classes
