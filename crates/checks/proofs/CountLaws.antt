@@ -44,3 +44,5 @@ classes_counted cs = then_parted (check_some cs) (check_length cs) (first_fault 
 pub marks_counted : (cs : List ℕ) (flags room : ℕ) → checks_of_marks cs flags room ≡ ((check_some cs and_then check_length cs) and_then check_mark_room cs flags room)
 unfolding checks_of_marks
 marks_counted cs flags room = then_parted (check_some cs) (check_length cs) (check_mark_room cs flags room)
+
+pub ruleset count_laws = (count_none, count_long, count_right)

@@ -166,3 +166,7 @@ closing cs n some e =
         let two : 2 ≤ length cs = pair_of_two cs pair in
         let one : length (drop (n + 1) cs) ≡ 1 = length-drop (n + 1) cs ∙ omega arith in
         record { within = omega arith; ends = sym (may_pair (get_or cs n 0) (drop (n + 1) cs) one) ∙ rw is pair }
+
+pub ruleset may_end_laws = (may_last, may_pair, may_not)
+
+pub ruleset closing_laws = (closing_alone, closing_pair, closing_last)

@@ -1,59 +1,55 @@
-// What a refusal is: the page's number and a place. Another refusal is another constant here.
+// What a refusal is. The page's number and place of each are read off it; another refusal is another case here.
 #![tactic(auto)]
 
 ghost use Rattle.std.specs.Prelude.{◌≡◌};
-ghost use Rattle.refusals.specs.Page.{refusal_with};
+ghost use Rattle.refusals.specs.Page.{number_of, place_of};
 
-// The numbers of the page's refusals.
-pub const NO_CLASSES: u8 = 1;
-
-pub const UNKNOWN_CLASS: u8 = 2;
-
-pub const TOO_LONG: u8 = 3;
-
-// B or CR before the last position, and no CR that a last B follows.
-pub const EARLY_SEPARATOR: u8 = 4;
-
-// A request above 2, a default above 1, or in Order a base above 1.
-pub const BAD_BASE: u8 = 5;
-
-pub const SHORT_LEVELS: u8 = 6;
-
-pub const BAD_LEVEL: u8 = 7;
-
-pub const BAD_LINE: u8 = 8;
-
-pub const SHORT_ORDER: u8 = 9;
-
-pub const BAD_ENDS: u8 = 10;
-
-// Any other buffer that has too few places.
-pub const SHORT_BUFFER: u8 = 16;
-
-// The place is the first faulty position, or 0 where the page gives none.
-#[derive(Clone, Copy)]
-pub struct Refusal {
-    pub number: u8,
-    pub place: usize,
+// The page gives a place where one position is at fault.
+#[derive(Clone, Copy, Debug, PartialEq, Eq)]
+pub enum Refusal {
+    NoClasses,
+    UnknownClass(usize),
+    TooLong,
+    // B or CR before the last position, and no CR that a last B follows.
+    EarlySeparator(usize),
+    // A request above 2, a default above 1, or in Order a base above 1.
+    BadBase,
+    ShortLevels,
+    BadLevel(usize),
+    BadLine,
+    ShortOrder,
+    BadEnds,
+    // Any other buffer that has too few places.
+    ShortBuffer,
 }
 
-// What a check finds.
-#[derive(Clone, Copy)]
-pub enum Checked {
-    Sound,
-    Refused(Refusal),
-}
+impl Refusal {
+    // The page's number.
+    pub fn number(self) -> u8
+        ensures { result ≡ number_of self }
+    {
+        match self {
+            Refusal::NoClasses => 1,
+            Refusal::UnknownClass(_) => 2,
+            Refusal::TooLong => 3,
+            Refusal::EarlySeparator(_) => 4,
+            Refusal::BadBase => 5,
+            Refusal::ShortLevels => 6,
+            Refusal::BadLevel(_) => 7,
+            Refusal::BadLine => 8,
+            Refusal::ShortOrder => 9,
+            Refusal::BadEnds => 10,
+            Refusal::ShortBuffer => 16,
+        }
+    }
 
-// A refusal of the input as a whole.
-pub fn whole(number: u8) -> Refusal
-    ensures { result ≡ refusal_with number 0 }
-{
-    Refusal { number, place: 0 }
-}
-
-// A refusal of one position.
-pub fn at(number: u8, place: usize) -> Refusal
-    ensures { result ≡ refusal_with number place }
-{
-    Refusal { number, place }
+    // The first faulty position, or 0 where the page gives no place.
+    pub fn place(self) -> usize
+        ensures { result ≡ place_of self }
+    {
+        match self {
+            Refusal::UnknownClass(at) | Refusal::EarlySeparator(at) | Refusal::BadLevel(at) => at,
+            _ => 0,
+        }
+    }
 }

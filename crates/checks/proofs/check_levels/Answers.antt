@@ -1,13 +1,12 @@
--- `checks::check_levels` meets its contract: the refusal of the classes, or where there is none that of the request.
--- Assumes nothing.
+-- `checks::check_levels` meets its contract: the refusal of the classes, or where there is none that of the request. Assumes nothing.
 use Rattle.rules.specs.Refusals.{checks_of_levels}
-use Rattle.refusals.proofs.PageLaws.{ends_there, goes_on}
+use Rattle.refusals.proofs.PageLaws.{stops, goes_on}
 use Rattle.checks.proofs.check_levels.Goals as goal
 
-pub returns-in-Refused : goal.returns-in-Refused
+pub returns-in_err-check_classes : goal.returns-in_err-check_classes
 unfolding checks_of_levels
-returns-in-Refused c = ends_there _ _ c.check_classes-first.ensures c.in-Refused.is
+returns-in_err-check_classes c = stops _ _ _ _ c.from_residual.ensures.1 c.in_err-check_classes.ensures
 
 pub returns : goal.returns
 unfolding checks_of_levels
-returns c = goes_on _ _ c.check_classes-first.ensures c.in_default.is c.check_request.ensures
+returns c = goes_on _ _ c.in_ok-check_classes.ensures c.check_request.ensures

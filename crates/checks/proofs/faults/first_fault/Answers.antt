@@ -5,6 +5,7 @@ use mathlib.Core.Path.{sym}
 use native.Mathlib.Omega.{arith}
 use lib.Seq.{length-take-le}
 use Rattle.laws.proofs.Tests.{known}
+use Rattle.checks.specs.Faults.{is_fault}
 use Rattle.checks.proofs.FaultLaws.{closing_is_first, Closing, closing}
 use Rattle.checks.proofs.faults.first_fault.Goals as goal
 use Rattle.checks.proofs.faults.first_fault.Goals.{After-closing_at-closing}
@@ -12,9 +13,9 @@ use Rattle.checks.proofs.faults.first_fault.Goals.{After-closing_at-closing}
 closes : (c : After-closing_at-closing) → Closing c.args.classes.now c.closing_at-closing.result
 closes c = closing c.args.classes.now _ c.requires c.closing_at-closing.ensures
 
-pub slice_bounds-any_fault-end : goal.slice_bounds-any_fault-end
-slice_bounds-any_fault-end c =
-    let at = (closes (goal.at.slice_bounds-any_fault-end c).After-closing_at-closing).within in
+pub slice_bounds-any-end : goal.slice_bounds-any-end
+slice_bounds-any-end c =
+    let at = (closes (goal.at.slice_bounds-any-end c).After-closing_at-closing).within in
     sym (length-take-le _ _ (omega (arith, at)))
 
 pub fault_at-requires : goal.fault_at-requires
@@ -24,4 +25,4 @@ pub returns : goal.returns
 returns c =
     let at = closes (goal.at.returns c).After-closing_at-closing in
     closing_is_first _ _ _ at.within at.ends
-    (known c.any_fault.ensures c.if-any_fault.false) c.fault_at.ensures
+    (known (c.any.ensures is_fault (λ t b fits gives. gives)) c.if-any.false) c.fault_at.ensures

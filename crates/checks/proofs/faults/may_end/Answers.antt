@@ -7,18 +7,18 @@ use lib.ListN.{length, drop, length-drop}
 use Rattle.checks.proofs.FaultLaws.{may_last, may_pair, may_not}
 use Rattle.checks.proofs.faults.may_end.Goals as goal
 
-pub returns-then-behind-eq0 : goal.returns-then-behind-eq0
-returns-then-behind-eq0 c =
+pub returns-in-0 : goal.returns-in-0
+returns-in-0 c =
     let a = c.args in
-    may_last _ _ (length-drop (a.i + 1) a.classes.now ∙ omega arith)
+    may_last _ _ (length-drop (a.i + 1) a.classes.now ∙ omega (arith, c.in-0.is))
 
-pub returns-then-behind-eq1 : goal.returns-then-behind-eq1
-returns-then-behind-eq1 c =
+pub returns-in-1 : goal.returns-in-1
+returns-in-1 c =
     let a = c.args in
-    c.is_pair.ensures ∙ may_pair _ _ (length-drop (a.i + 1) a.classes.now ∙ omega arith)
+    c.is_pair.ensures ∙ may_pair _ _ (length-drop (a.i + 1) a.classes.now ∙ omega (arith, c.in-1.is))
 
-pub returns : goal.returns
-returns c =
+pub returns-in_default : goal.returns-in_default
+returns-in_default c =
     let a = c.args in
     let left : length (drop (a.i + 1) a.classes.now) ≡ length a.classes.now - (a.i + 1) = length-drop (a.i + 1) a.classes.now in
-    may_not _ _ (λ none. c.if-behind-eq0.false (omega arith)) (λ one. c.if-behind-eq1.false (omega arith))
+    may_not _ _ (λ none. omega arith) (λ one. omega arith)
