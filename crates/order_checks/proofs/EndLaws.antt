@@ -41,3 +41,5 @@ ends_wrong cs ends h e = rw (some_is ends h, e)
 pub ends_right : (cs ends : List ℕ) → (length ends ≡ 0 → ⊥) → ends_rise_to 0 ends (length cs) ≡ true → check_ends cs ends ≡ sound
 unfolding check_ends
 ends_right cs ends h e = rw (some_is ends h, e)
+
+pub ruleset ends_laws = (ends_none, ends_wrong, ends_right)

@@ -5,9 +5,10 @@ ghost use Rattle.laws.specs.Any.{any_pair};
 ghost use Rattle.refusals.specs.Page.{check_of};
 
 use classes::HIGHEST_RESOLVED;
-use refusals::{BAD_LEVEL, Checked, at};
+use refusals::Refusal;
 
 // At one position.
+#[tactic(auto, using(laws::proofs::Tests::tests), unfolding(rules::specs::Refusals::is_bad_level))]
 pub(crate) fn is_bad_level(class: u8, level: u8) -> bool
     ensures { result ≡ is_bad_level class level }
 {
@@ -23,36 +24,32 @@ pub(crate) fn any_bad_level(classes: &[u8], levels: &[u8]) -> bool
     ensures { result ≡ any_pair is_bad_level classes.now levels.now }
 {
     let mut bad = false;
-    let mut i: usize = 0;
-    while i < classes.len() {
-        bad = parts::either(bad, is_bad_level(classes[i], levels[i]));
-        i += 1;
+    for (i, class) in classes.iter().enumerate() {
+        bad |= is_bad_level(*class, levels[i]);
     }
     bad
 }
 
 // The walk to the first lent level that is bad, on the paragraph's positions alone.
-pub(crate) fn search_bad_level(classes: &[u8], levels: &[u8]) -> Checked
+pub(crate) fn search_bad_level(classes: &[u8], levels: &[u8]) -> Result<(), Refusal>
     requires { length classes.now ≤ length levels.now }
     ensures { check_of result ≡ first_bad_level 0 classes.now levels.now }
 {
-    let mut i = 0;
-    while i < classes.len() {
-        if is_bad_level(classes[i], levels[i]) {
-            return Checked::Refused(at(BAD_LEVEL, i));
+    for (i, class) in classes.iter().enumerate() {
+        if is_bad_level(*class, levels[i]) {
+            return Err(Refusal::BadLevel(i));
         }
-        i += 1;
     }
-    Checked::Sound
+    Ok(())
 }
 
 // The first lent level that is bad: looked for only where there is one.
-pub(crate) fn first_bad_level(classes: &[u8], levels: &[u8]) -> Checked
+pub(crate) fn first_bad_level(classes: &[u8], levels: &[u8]) -> Result<(), Refusal>
     requires { length classes.now ≤ length levels.now }
     ensures { check_of result ≡ first_bad_level 0 classes.now levels.now }
 {
     if any_bad_level(classes, levels) {
         return search_bad_level(classes, levels);
     }
-    Checked::Sound
+    Ok(())
 }

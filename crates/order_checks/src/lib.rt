@@ -9,46 +9,42 @@ ghost use Rattle.rules.specs.Refusals.{◌and_then◌, check_base, check_level_r
 ghost use Rattle.refusals.specs.Page.{check_of};
 
 use levels::first_bad_level;
-use refusals::{BAD_BASE, BAD_ENDS, BAD_LINE, Checked, SHORT_LEVELS, SHORT_ORDER, whole};
+use refusals::Refusal;
 
 // 5, 6, then 7: the base and the levels that Order is lent.
-fn check_lent(classes: &[u8], levels: &[u8], base: u8) -> Checked
+#[tactic(auto, using(laws::proofs::Tests::tests), unfolding(rules::specs::Refusals::check_base, rules::specs::Refusals::check_level_room))]
+fn check_lent(classes: &[u8], levels: &[u8], base: u8) -> Result<(), Refusal>
     ensures { check_of result ≡ (check_base base and_then check_level_room classes.now (length levels.now) and_then first_bad_level 0 classes.now levels.now) }
 {
     if 1 < base {
-        return Checked::Refused(whole(BAD_BASE));
+        return Err(Refusal::BadBase);
     }
     if levels.len() < classes.len() {
-        return Checked::Refused(whole(SHORT_LEVELS));
+        return Err(Refusal::ShortLevels);
     }
     first_bad_level(classes, levels)
 }
 
 // The checks that both forms of Order begin with.
-fn check_order(classes: &[u8], levels: &[u8], base: u8) -> Checked
+fn check_order(classes: &[u8], levels: &[u8], base: u8) -> Result<(), Refusal>
     ensures { check_of result ≡ checks_of_order classes.now levels.now base }
 {
-    let first = checks::check_classes(classes);
-    if let Checked::Refused(_) = first {
-        return first;
-    }
+    checks::check_classes(classes)?;
     check_lent(classes, levels, base)
 }
 
 // 8, then 9 for one line; `places` is how many places the order buffer has.
-fn check_places(classes: &[u8], from: usize, to: usize, places: usize) -> Checked
+#[tactic(auto, using(laws::proofs::Tests::tests), unfolding(rules::specs::Refusals::check_line, rules::specs::Refusals::check_order_room))]
+fn check_places(classes: &[u8], from: usize, to: usize, places: usize) -> Result<(), Refusal>
     ensures { check_of result ≡ (check_line classes.now from to and_then check_order_room (to - from) places) }
 {
-    if to <= from {
-        return Checked::Refused(whole(BAD_LINE));
-    }
-    if classes.len() < to {
-        return Checked::Refused(whole(BAD_LINE));
+    if to <= from || classes.len() < to {
+        return Err(Refusal::BadLine);
     }
     if places < to - from {
-        return Checked::Refused(whole(SHORT_ORDER));
+        return Err(Refusal::ShortOrder);
     }
-    Checked::Sound
+    Ok(())
 }
 
 // The checks of one line.
@@ -59,13 +55,10 @@ pub fn check_line(
     from: usize,
     to: usize,
     places: usize,
-) -> Checked
+) -> Result<(), Refusal>
     ensures { check_of result ≡ checks_of_line classes.now levels.now base from to places }
 {
-    let first = check_order(classes, levels, base);
-    if let Checked::Refused(_) = first {
-        return first;
-    }
+    check_order(classes, levels, base)?;
     check_places(classes, from, to, places)
 }
 
@@ -74,41 +67,40 @@ pub(crate) fn ends_rise(ends: &[u16], last: usize) -> bool
     ensures { result ≡ ends_rise_to 0 ends.now last }
 {
     let mut before: usize = 0;
-    let mut i = 0;
-    while i < ends.len() {
-        let end = ends[i] as usize;
+    for end in ends {
+        let end = usize::from(*end);
         if end <= before {
             return false;
         }
         before = end;
-        i += 1;
     }
     before == last
 }
 
 // 10, then 9 for all lines.
-fn check_ends(classes: &[u8], ends: &[u16], places: usize) -> Checked
+#[tactic(auto, using(laws::proofs::Tests::tests, crate::proofs::EndLaws::ends_laws), unfolding(rules::specs::Refusals::check_order_room))]
+fn check_ends(classes: &[u8], ends: &[u16], places: usize) -> Result<(), Refusal>
     ensures { check_of result ≡ (check_ends classes.now ends.now and_then check_order_room (length classes.now) places) }
 {
-    if ends.len() == 0 {
-        return Checked::Refused(whole(BAD_ENDS));
+    if ends.is_empty() || !ends_rise(ends, classes.len()) {
+        return Err(Refusal::BadEnds);
     }
-    if ends_rise(ends, classes.len()) {
-        if places < classes.len() {
-            return Checked::Refused(whole(SHORT_ORDER));
-        }
-        return Checked::Sound;
+    if places < classes.len() {
+        return Err(Refusal::ShortOrder);
     }
-    Checked::Refused(whole(BAD_ENDS))
+    Ok(())
 }
 
 // The checks of all lines.
-pub fn check_lines(classes: &[u8], levels: &[u8], base: u8, ends: &[u16], places: usize) -> Checked
+pub fn check_lines(
+    classes: &[u8],
+    levels: &[u8],
+    base: u8,
+    ends: &[u16],
+    places: usize,
+) -> Result<(), Refusal>
     ensures { check_of result ≡ checks_of_lines classes.now levels.now base ends.now places }
 {
-    let first = check_order(classes, levels, base);
-    if let Checked::Refused(_) = first {
-        return first;
-    }
+    check_order(classes, levels, base)?;
     check_ends(classes, ends, places)
 }
