@@ -1,42 +1,30 @@
 -- What each answer means on the page, and what a job promises: its answer and the buffer it was lent, for every input.
-use Rattle.std.specs.Prelude.{ℕ, ◌*◌, ◌≤◌, ◌≡◌, List, take}
-use Rattle.std.proofs.Math.Option.{Option, none, some}
+use Rattle.std.specs.Prelude.{ℕ, ◌*◌, ◌≤◌, ◌≡◌, Option, Result, List, take}
 use Rattle.rules.specs.Line.{line_levels, line_kept}
 use Rattle.rules.specs.Refusals.{highest_resolved}
 use Rattle.rules.specs.Reversals.{Counted, EachCounted}
 use Rattle.rules.specs.Jobs.{Answer, accepted, refused, Placing, line_answer, line_buffer, lines_answer, lines_buffer}
+use Rattle.refusals.specs.Page.{page_of}
+use Rattle.refusals.specs.declared.Refusal.{Refusal}
 use Rattle.line.specs.declared.Placed.{Placed}
 use Rattle.pairwise.specs.Demand3.{Displayed, EachDisplayed}
-use Rattle.melvorash.specs.declared.answers.CutAnswer.{CutAnswer}
-use Rattle.melvorash.specs.declared.answers.CutAnswer.TheVariants as Cutting
-use Rattle.melvorash.specs.declared.answers.BaseAnswer.{BaseAnswer}
-use Rattle.melvorash.specs.declared.answers.BaseAnswer.TheVariants as Basing
-use Rattle.melvorash.specs.declared.answers.LevelsAnswer.{LevelsAnswer}
-use Rattle.melvorash.specs.declared.answers.LevelsAnswer.TheVariants as Levelling
-use Rattle.melvorash.specs.declared.answers.OrderAnswer.{OrderAnswer}
-use Rattle.melvorash.specs.declared.answers.OrderAnswer.TheVariants as Ordering
 
 -- the length, the base level or none found, the base level used, or how many positions were placed and reversed; or the
 -- refusal's number and place
-abbrev pub cut_page : CutAnswer → Answer ℕ
-cut_page (Cutting.Length n) = accepted n
-cut_page (Cutting.Refused r) = refused r.number r.place
+abbrev pub cut_page : Result ℕ Refusal → Answer ℕ
+cut_page = page_of (λ length. length)
 
-abbrev pub base_page : BaseAnswer → Answer (Option ℕ)
-base_page (Basing.Level l) = accepted (some l)
-base_page Basing.NoneFound = accepted none
-base_page (Basing.Refused r) = refused r.number r.place
+abbrev pub base_page : Result (Option ℕ) Refusal → Answer (Option ℕ)
+base_page = page_of (λ level. level)
 
-abbrev pub levels_page : LevelsAnswer → Answer ℕ
-levels_page (Levelling.Base l) = accepted l
-levels_page (Levelling.Refused r) = refused r.number r.place
+abbrev pub levels_page : Result ℕ Refusal → Answer ℕ
+levels_page = page_of (λ base. base)
 
 abbrev pub placing_of : Placed → Placing
 placing_of p = record { placed = p.count; reversed = p.reversed }
 
-abbrev pub order_page : OrderAnswer → Answer Placing
-order_page (Ordering.Ordered p) = accepted (placing_of p)
-order_page (Ordering.Refused r) = refused r.number r.place
+abbrev pub order_page : Result Placed Refusal → Answer Placing
+order_page = page_of placing_of
 
 -- how long a part an answer of Cut gives: the paragraph's length, and 0 where it refuses
 abbrev pub part_length : Answer ℕ → ℕ

@@ -3,35 +3,34 @@
 ghost use Rattle.rules.specs.Jobs.{levels_answer, explicit_buffer, resolve_buffer};
 ghost use Rattle.melvorash.specs.Answers.{levels_page, Leaves};
 
-use crate::answers::LevelsAnswer;
-use refusals::Checked;
+use refusals::Refusal;
 
 // The levels as they stand after X1 to X9.
-pub fn explicit_levels(classes: &[u8], request: u8, fallback: u8, levels: &mut [u8]) -> LevelsAnswer
+pub fn explicit_levels(
+    classes: &[u8],
+    request: u8,
+    fallback: u8,
+    levels: &mut [u8],
+) -> Result<u8, Refusal>
     ensures { Leaves (levels_answer classes.now request fallback levels.old) (explicit_buffer classes.now request fallback levels.old) (levels_page result) levels.new }
 {
-    let checked = checks::check_levels(classes, request, fallback, levels.len());
-    match checked {
-        Checked::Refused(refusal) => LevelsAnswer::Refused(refusal),
-        Checked::Sound => {
-            let base = paragraph::base_of(request, fallback, classes);
-            explicit::explicit_levels(classes, base, levels);
-            LevelsAnswer::Base(base)
-        }
-    }
+    checks::check_levels(classes, request, fallback, levels.len())?;
+    let base = paragraph::base_of(request, fallback, classes);
+    explicit::explicit_levels(classes, base, levels);
+    Ok(base)
 }
 
 // The levels as they stand after I1 and I2, before any line is known.
-pub fn resolve_levels(classes: &[u8], request: u8, fallback: u8, levels: &mut [u8]) -> LevelsAnswer
+pub fn resolve_levels(
+    classes: &[u8],
+    request: u8,
+    fallback: u8,
+    levels: &mut [u8],
+) -> Result<u8, Refusal>
     ensures { Leaves (levels_answer classes.now request fallback levels.old) (resolve_buffer classes.now request fallback levels.old) (levels_page result) levels.new }
 {
-    let checked = checks::check_levels(classes, request, fallback, levels.len());
-    match checked {
-        Checked::Refused(fault) => LevelsAnswer::Refused(fault),
-        Checked::Sound => {
-            let used = paragraph::base_of(request, fallback, classes);
-            resolve::resolve_levels(classes, used, levels);
-            LevelsAnswer::Base(used)
-        }
-    }
+    checks::check_levels(classes, request, fallback, levels.len())?; // as Explicit
+    let used = paragraph::base_of(request, fallback, classes);
+    resolve::resolve_levels(classes, used, levels);
+    Ok(used)
 }

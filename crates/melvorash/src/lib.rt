@@ -2,13 +2,12 @@
 // altered nothing; or does its work by the definitions of section 3.12.
 #![tactic(auto)]
 
-mod answers;
 mod levels;
 mod order;
 mod paragraphs;
 
-pub use answers::{BaseAnswer, CutAnswer, LevelsAnswer, OrderAnswer};
 pub use levels::{explicit_levels, resolve_levels};
 pub use line::Placed;
 pub use order::{order_line, order_lines};
 pub use paragraphs::{base, cut, cut_part};
+pub use refusals::Refusal;

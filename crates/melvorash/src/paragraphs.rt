@@ -1,59 +1,51 @@
 // Cut and Base: the first paragraph of the lent classes, and the base level of one.
 ghost use Rattle.std.specs.Prelude.{◌≡◌, ◌<◌, length};
-ghost use Rattle.rules.specs.Jobs.{accepted, cut_answer, cut_part, base_answer};
-ghost use Rattle.paragraph.specs.Found.{decided_of};
+ghost use Rattle.rules.specs.Jobs.{cut_answer, cut_part, base_answer};
 ghost use Rattle.melvorash.specs.Answers.{cut_page, base_page, part_length};
 ghost use Rattle.melvorash.specs.Stops.{stop_at};
 
-use crate::answers::{BaseAnswer, CutAnswer};
-use paragraph::Decided;
-use refusals::{Checked, NO_CLASSES, TOO_LONG, UNKNOWN_CLASS};
+use refusals::Refusal;
 
 // What Cut answers where its walk stops: at a class that is none, or at a separator. A CR takes the B along that follows it.
-pub(crate) fn stop_at(classes: &[u8], i: usize) -> CutAnswer
+pub(crate) fn stop_at(classes: &[u8], i: usize) -> Result<usize, Refusal>
     requires { i < length classes.now }
     ensures { cut_page result ≡ stop_at classes.now i }
 {
     if classes::is_unknown(classes[i]) {
-        return CutAnswer::Refused(refusals::at(UNKNOWN_CLASS, i));
+        return Err(Refusal::UnknownClass(i));
     }
     if paragraph::is_pair(classes, i) {
         if i + 1 == classes::LONGEST {
-            return CutAnswer::Refused(refusals::whole(TOO_LONG));
+            return Err(Refusal::TooLong);
         }
-        return CutAnswer::Length(i + 2);
+        return Ok(i + 2);
     }
-    CutAnswer::Length(i + 1)
+    Ok(i + 1)
 }
 
 // The paragraph's length. At most 4,096 positions are looked at, and none after the paragraph but for a B after a CR.
-pub fn cut(classes: &[u8]) -> CutAnswer
+pub fn cut(classes: &[u8]) -> Result<usize, Refusal>
     ensures { cut_page result ≡ cut_answer classes.now }
 {
-    if classes.len() == 0 {
-        return CutAnswer::Refused(refusals::whole(NO_CLASSES));
+    if classes.is_empty() {
+        return Err(Refusal::NoClasses);
     }
-    let mut i = 0;
-    while i < classes.len() {
+    for (i, class) in classes.iter().enumerate() {
         if i == classes::LONGEST {
-            return CutAnswer::Refused(refusals::whole(TOO_LONG));
+            return Err(Refusal::TooLong);
         }
-        if checks::is_fault(classes[i]) {
+        if checks::is_fault(*class) {
             return stop_at(classes, i);
         }
-        i += 1;
     }
-    CutAnswer::Length(i)
+    Ok(classes.len())
 }
 
 // How long the part is that an answer gives: empty exactly where it refuses.
-fn part_length(answer: CutAnswer) -> usize
+fn part_length(answer: Result<usize, Refusal>) -> usize
     ensures { result ≡ part_length (cut_page answer) }
 {
-    match answer {
-        CutAnswer::Length(length) => length,
-        CutAnswer::Refused(_) => 0,
-    }
+    answer.unwrap_or(0)
 }
 
 // The paragraph itself, as the first part of the lent classes.
@@ -64,22 +56,10 @@ pub fn cut_part(classes: &[u8]) -> &[u8]
     &classes[..length]
 }
 
-fn base_found(decided: Decided) -> BaseAnswer
-    ensures { base_page result ≡ accepted (decided_of decided) }
-{
-    match decided {
-        Decided::Level(level) => BaseAnswer::Level(level),
-        Decided::Nothing => BaseAnswer::NoneFound,
-    }
-}
-
 // The base level of one paragraph, by its text. That nothing decides it is an answer, so that a caller knows a guess.
-pub fn base(classes: &[u8]) -> BaseAnswer
+pub fn base(classes: &[u8]) -> Result<Option<u8>, Refusal>
     ensures { base_page result ≡ base_answer classes.now }
 {
-    let checked = checks::check_classes(classes);
-    match checked {
-        Checked::Refused(refusal) => BaseAnswer::Refused(refusal),
-        Checked::Sound => base_found(paragraph::base_by_text(classes)),
-    }
+    checks::check_classes(classes)?;
+    Ok(paragraph::base_by_text(classes))
 }

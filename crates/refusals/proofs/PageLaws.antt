@@ -5,7 +5,7 @@ use Rattle.std.proofs.lemmas.Result.{err_from_is_err_and}
 use Prim.Native.Nat.{ℕ}
 use mathlib.Core.Path.{◌≡◌, refl, sym, ap, ◌∙◌}
 use Rattle.rules.specs.Refusals.{Check, sound, refuse, ◌and_then◌}
-use Rattle.rules.specs.Jobs.{Answer, accepted, refused}
+use Rattle.rules.specs.Jobs.{Answer, accepted, refused, answered}
 use Rattle.laws.proofs.Determined.{told_apart}
 use Rattle.refusals.specs.Page.{number_of, place_of, check_of, page_of}
 use Rattle.refusals.specs.declared.Refusal.{Refusal}
@@ -68,6 +68,11 @@ pub handed : {A : Type 0} (whole : Check) (found : Result A Refusal) (r : Refusa
 handed whole found r is e =
     let told : (y : Refusal) × (found ≡ Err y) × (y ≡ r) = err_from_is_err_and found is in
     rw (told.1, told.2) e
+
+pub answer_handed : {A B : Type 0} (value : A → B) (check : Check) (wanted : B) (found : Result A Refusal) (r : Refusal) → IsErrAnd found (λ (e : Refusal). e ≡ r) → refuse (number_of r) (place_of r) ≡ check → page_of value found ≡ answered check wanted
+answer_handed value check wanted found r is e =
+    let told : (y : Refusal) × (found ≡ Err y) × (y ≡ r) = err_from_is_err_and found is in
+    rw (told.1, told.2, sym e)
 
 -- ---- a check and then the next: its refusal ends the checks, and where it finds nothing wrong the next one tells
 pub stops : {A : Type 0} (check next : Check) (found : Result A Refusal) (r : Refusal) → IsErrAnd found (λ (e : Refusal). e ≡ r) → refuse (number_of r) (place_of r) ≡ check → check_of found ≡ (check and_then next)

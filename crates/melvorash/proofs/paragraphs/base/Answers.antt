@@ -1,18 +1,16 @@
 -- `melvorash::paragraphs::base` meets its contract: a refusal is the one that the checks found, and else the answer is the base by text.
 -- Assumes nothing.
-use mathlib.Core.Path.{sym, ap, ◌∙◌}
+use Rattle.std.proofs.Common.{sym}
 use Rattle.rules.specs.Refusals.{checks_of_base}
 use Rattle.rules.specs.Jobs.{base_answer}
-use Rattle.refusals.specs.Page.{check_of}
-use Rattle.rules.proofs.JobLaws.{answer_refused, answer_sound}
+use Rattle.rules.proofs.JobLaws.{answer_sound}
+use Rattle.refusals.proofs.PageLaws.{answer_handed}
 use Rattle.melvorash.proofs.paragraphs.base.Goals as goal
 
-pub returns-in-Refused : goal.returns-in-Refused
+pub returns-in_err-check_classes : goal.returns-in_err-check_classes
 unfolding base_answer checks_of_base
-returns-in-Refused c = answer_refused _ (sym c.check_classes-checked.ensures ∙ ap check_of c.in-Refused.is)
+returns-in_err-check_classes c = answer_handed _ _ _ _ _ c.from_residual.ensures.1 c.in_err-check_classes.ensures
 
-pub returns-in-Sound : goal.returns-in-Sound
+pub returns : goal.returns
 unfolding base_answer checks_of_base
-returns-in-Sound c =
-    c.base_found.ensures
-    ∙ answer_sound (sym c.check_classes-checked.ensures ∙ ap check_of c.in-Sound.is) c.base_by_text.ensures
+returns c = answer_sound (sym c.in_ok-check_classes.ensures) c.base_by_text.ensures

@@ -1,20 +1,21 @@
 -- `melvorash::paragraphs::cut` meets its contract: the invariant is where the walk stands at i; each way through the loop is a law of it.
 -- Assumes nothing.
-use mathlib.Core.Path.{refl, ◌∙◌}
+use Rattle.std.proofs.Common.{rules, arith, ◌≡◌, refl, ap, ◌∙◌, length}
+use Rattle.rules.specs.Jobs.{accepted}
 use Rattle.laws.proofs.Tests.{known}
 use Rattle.melvorash.proofs.CutLaws.{cut_of, walk_begun, cut_none, cut_done, cut_long, cut_stop, cut_on}
 use Rattle.melvorash.proofs.paragraphs.cut.Goals as goal
 
-pub returns-then-classes-eq0 : goal.returns-then-classes-eq0
-returns-then-classes-eq0 c = rw c.whole.ensures (cut_none _ c.if-classes-eq0.true)
+pub returns-then-is_empty : goal.returns-then-is_empty
+returns-then-is_empty c = cut_none _ (search rules)
 
 pub loop-i-init : goal.loop-i-init
-loop-i-init c = walk_begun _ _ c.if-classes-eq0.false
+loop-i-init c = walk_begun _ _ (search rules)
 
 pub returns-then-i-eq-LONGEST : goal.returns-then-i-eq-LONGEST
 returns-then-i-eq-LONGEST c =
     let w = c.loop-i.invariant in
-    rw c.whole-then-i-eq-LONGEST.ensures (cut_long _ _ _ w c.loop-i-test.true c.if-i-eq-LONGEST.true ∙ cut_of _ w.some)
+    cut_long _ _ _ w c.loop-i-test.true c.if-i-eq-LONGEST.true ∙ cut_of _ w.some
 
 pub returns-then-is_fault : goal.returns-then-is_fault
 returns-then-is_fault c =
@@ -30,4 +31,5 @@ loop-i-preserved c =
 pub returns : goal.returns
 returns c =
     let w = c.loop-i.invariant in
-    cut_done _ _ _ w c.loop-i-test.false ∙ cut_of _ w.some
+    let whole : length c.args.classes.now ≡ c.loop-i.i = omega (arith, c.loop-i.auto.i-end) in
+    ap accepted whole ∙ cut_done _ _ _ w c.loop-i-test.false ∙ cut_of _ w.some

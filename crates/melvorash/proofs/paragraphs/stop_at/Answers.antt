@@ -7,12 +7,12 @@ use Rattle.melvorash.proofs.paragraphs.stop_at.Goals as goal
 
 pub returns-then-is_unknown : goal.returns-then-is_unknown
 unfolding stop_at
-returns-then-is_unknown c = rw (c.at.ensures, known c.is_unknown.ensures c.if-is_unknown.true)
+returns-then-is_unknown c = rw (known c.is_unknown.ensures c.if-is_unknown.true)
 
 pub returns-then-i-eq-LONGEST : goal.returns-then-i-eq-LONGEST
 unfolding stop_at
 returns-then-i-eq-LONGEST c =
-    rw (c.whole.ensures, known c.is_unknown.ensures c.if-is_unknown.false, known c.is_pair.ensures c.if-is_pair.true, eq-eqb _ _ c.if-i-eq-LONGEST.true)
+    rw (known c.is_unknown.ensures c.if-is_unknown.false, known c.is_pair.ensures c.if-is_pair.true, eq-eqb _ _ c.if-i-eq-LONGEST.true)
 
 pub returns-then-is_pair : goal.returns-then-is_pair
 unfolding stop_at
