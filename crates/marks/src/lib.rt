@@ -7,24 +7,14 @@ mod draw;
 ghost use Rattle.marks.specs.Answers.{marks_page, DrawsMarks};
 
 use draw::draw;
-use refusals::{Checked, Refusal};
-
-// How many characters were put in drawing order, or why none were.
-#[derive(Clone, Copy)]
-pub enum MarksAnswer {
-    Drawn(usize),
-    Refused(Refusal),
-}
+use refusals::Refusal;
 
 // The order in which the characters are drawn, from their combining classes and a flag for each that is not 0 where it is a
-// modifier mark.
-pub fn drawing_order(classes: &[u8], flags: &[u8], order: &mut [u16]) -> MarksAnswer
+// modifier mark. Answers how many characters were put in drawing order.
+pub fn drawing_order(classes: &[u8], flags: &[u8], order: &mut [u16]) -> Result<usize, Refusal>
     ensures { DrawsMarks classes.now flags.now order.old (marks_page result) order.new }
 {
-    let checked = checks::check_marks(classes, flags.len(), order.len());
-    if let Checked::Refused(refusal) = checked {
-        return MarksAnswer::Refused(refusal);
-    }
+    checks::check_marks(classes, flags.len(), order.len())?;
     draw(classes, flags, order);
-    MarksAnswer::Drawn(classes.len())
+    Ok(classes.len())
 }
