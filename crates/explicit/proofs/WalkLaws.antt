@@ -1,6 +1,5 @@
 -- One position of a walk, of every position or of the kept ones: what is left after it. Assumes nothing.
 use Prim.Native.Nat.{ℕ, ◌+◌, ◌≤◌, ◌<◌}
-use native.Mathlib.Omega.{arith}
 use mathlib.Core.Path.{◌≡◌, sym, ap, ◌∙◌}
 use mathlib.Core.Bool.{true, false, ◌||◌}
 use mathlib.Core.List.{List, [], ◌∷◌}
@@ -10,28 +9,8 @@ use Rattle.laws.proofs.Lists.{drop_next}
 use Rattle.laws.proofs.Any.{neither}
 use Rattle.rules.specs.Classes.{LRE, LRO, RLE, RLO, PDF, BN, is_opening, is_removed}
 use Rattle.rules.specs.Explicit.{State, verdict, after, step, kept}
-use Rattle.machine.specs.declared.Machine.{Machine}
-use Rattle.machine.specs.Sound.{Sound}
-use Rattle.machine.specs.Sound.{counts, Stands}
 use Rattle.explicit.proofs.ExplicitLaws.{kept_none, kept_removed, kept_kept}
 use Rattle.laws.proofs.Filling.{Filled, filled_from, filled_more}
-
--- the machine after i positions
-pub record Walk (cs : List ℕ) (m : Machine) (i : ℕ) : Type 0 where
-  pub within : i ≤ length cs
-  pub sound : Sound m
-  pub counted : counts m ≤ i
-
-pub walk_begun : (cs : List ℕ) {m : Machine} {s : State} → Stands m s 0 → Walk cs m 0
-walk_begun cs t = record { within = omega arith; sound = t.sound; counted = t.counted }
-
-pub walk_next : {cs : List ℕ} {m r : Machine} {s : State} {i : ℕ} → i < length cs → Stands r s (counts m + 1) → Walk cs m i
-    → Walk cs r (i + 1)
-walk_next h t w = record { within = omega arith; sound = t.sound; counted = omega arith }
-
--- a kept position passed: the machine is as it was
-pub walk_stays : {cs : List ℕ} {m : Machine} {i : ℕ} → i < length cs → Walk cs m i → Walk cs m (i + 1)
-walk_stays h w = record { within = omega arith; sound = w.sound; counted = omega (arith, w.counted) }
 
 -- no step of the rules moves at a kept position
 pub kept_stays : (s : State) (c : ℕ) → is_removed c ≡ false → s ≡ step s c

@@ -15,11 +15,8 @@ pub fn explicit_levels(classes: &[u8], base: u8, levels: &mut [u8])
     ensures { levels.new ≡ over (explicit_levels base (X1 base) classes.now) levels.old }
 {
     let mut machine = Machine::new(base);
-    let mut at: usize = 0;
-    while at < classes.len() {
-        let class = classes[at];
+    for (at, &class) in classes.iter().enumerate() {
         levels[at] = machine.level_here(base, class);
-        at += 1;
         if classes::is_removed(class) {
             machine = machine.step(class);
         }
@@ -33,11 +30,8 @@ pub fn gather(classes: &[u8], base: u8, levels: &mut [u8], types: &mut [u8]) -> 
     ensures { Gathered base classes.now levels.old types.old levels.new types.new result }
 {
     let mut machine = Machine::new(base);
-    let mut k: usize = 0;
-    let mut i: usize = 0;
-    while i < classes.len() {
-        let class = classes[i];
-        i += 1;
+    let mut k = 0;
+    for &class in classes {
         if classes::is_removed(class) {
             machine = machine.step(class);
         } else {

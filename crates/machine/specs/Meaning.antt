@@ -1,14 +1,11 @@
 -- The machine's struct as a state of the rules, and its verdicts as theirs.
-use Rattle.std.specs.Prelude.{ℕ, zero, suc, ◌-◌, List, [], ◌∷◌, ◌++◌, eqb, get_or, replicate, if◌then◌else◌}
+use Rattle.std.specs.Prelude.{ℕ, zero, suc, List, [], ◌∷◌, ◌++◌, eqb, get_or, replicate, if◌then◌else◌}
 use Rattle.rules.specs.Explicit.{State, Entry, valid, invalid, highest_explicit, opens_valid, opens_invalid, closes_valid, closes_invalid, closes_nothing, plain}
 use Rattle.rules.specs.Explicit as rules
+use Rattle.machine.specs.Fields.{next_to_highest}
 use Rattle.machine.specs.declared.Machine.{Machine}
 use Rattle.machine.specs.declared.Verdict.{Verdict}
 use Rattle.machine.specs.declared.Verdict.TheVariants.{OpensValid, OpensInvalid, ClosesValid, ClosesInvalid, ClosesNothing, Plain}
-
--- the only two levels at which a code can be invalid: 61, and 60 where it asks for an even level
-abbrev pub next_to_highest : ℕ
-next_to_highest = highest_explicit - 1
 
 -- how many invalid codes are unmatched at a level, where n60 are at 60 and n61 at 61: at no other can there be any
 unfoldable pub invalid_at : ℕ → ℕ → ℕ → ℕ
@@ -37,9 +34,9 @@ abbrev pub meaning : Machine → State
 meaning m = state_with m (invalid_here m)
 
 abbrev pub verdict_of : Verdict → rules.Verdict
-verdict_of (OpensValid level over) = opens_valid level over
+verdict_of (OpensValid pair) = opens_valid pair.level pair.over
 verdict_of OpensInvalid = opens_invalid
-verdict_of (ClosesValid level over) = closes_valid level over
+verdict_of (ClosesValid pair) = closes_valid pair.level pair.over
 verdict_of ClosesInvalid = closes_invalid
 verdict_of ClosesNothing = closes_nothing
 verdict_of Plain = plain
