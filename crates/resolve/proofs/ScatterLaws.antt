@@ -107,7 +107,7 @@ left_at_most {cs} {ls₀} {count} {ls} {i} {j} p =
     omega (arith, p.left, length-take i cs)
 
 -- the code counts down: i is one more than i - 1
-pub counted_down : {cs ls₀ : List ℕ} {count : ℕ} {ls : List ℕ} {i j : ℕ} → j < i → Placing cs ls₀ count ls i j → Placing cs ls₀ count ls (i - 1 + 1) j
+pub counted_down : {cs ls₀ : List ℕ} {count : ℕ} {ls : List ℕ} {i j : ℕ} → 0 < i → Placing cs ls₀ count ls i j → Placing cs ls₀ count ls (i - 1 + 1) j
 counted_down {cs} {ls₀} {count} {ls} {i} {j} h p = let e : i - 1 + 1 ≡ i = omega arith in rw e p
 
 -- one position back: i + 1 becomes i

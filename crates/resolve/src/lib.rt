@@ -19,16 +19,17 @@ fn resolve_gathered(classes: &[u8], base: u8, levels: &mut [u8], types: &mut [u8
     scatter::put_back(classes, levels, count);
 }
 
-// Where nothing is removed there is nothing to gather and to put back.
-fn resolve_in(classes: &[u8], base: u8, levels: &mut [u8], types: &mut [u8])
-    requires { (base ≤ 1) × (length classes.now ≤ length levels.old) × (length classes.now ≤ length types.old) }
+// Works in a room of so many places. Where nothing is removed there is nothing to gather and to put back.
+fn resolve_within<const ROOM: usize>(classes: &[u8], base: u8, levels: &mut [u8])
+    requires { (base ≤ 1) × (length classes.now ≤ length levels.old) × (length classes.now ≤ ROOM) × (ROOM ≤ longest_paragraph) }
     ensures { levels.new ≡ over (resolved_levels base classes.now) levels.old }
 {
+    let mut types = [0u8; ROOM];
     if parts::any_removed(classes) {
-        resolve_gathered(classes, base, levels, types);
-        return;
+        resolve_gathered(classes, base, levels, &mut types);
+    } else {
+        plain::resolve_plain(classes, base, levels, &mut types);
     }
-    plain::resolve_plain(classes, base, levels, types);
 }
 
 // A short label does not pay for the room of the longest paragraph.
@@ -37,10 +38,8 @@ pub fn resolve_levels(classes: &[u8], base: u8, levels: &mut [u8])
     ensures { levels.new ≡ over (resolved_levels base classes.now) levels.old }
 {
     if classes.len() <= parts::SHORT {
-        let mut few = [0u8; parts::SHORT];
-        resolve_in(classes, base, levels, &mut few);
-        return;
+        resolve_within::<{ parts::SHORT }>(classes, base, levels);
+    } else {
+        resolve_within::<{ classes::LONGEST }>(classes, base, levels);
     }
-    let mut many = [0u8; classes::LONGEST];
-    resolve_in(classes, base, levels, &mut many);
 }

@@ -9,10 +9,11 @@ pub(crate) fn put_back(classes: &[u8], levels: &mut [u8], count: usize)
     requires classes_in_bounds { length classes.now ≤ length levels.old }
     ensures { levels.new ≡ put_back classes.now (take count levels.old) ++ drop (length classes.now) levels.old }
 {
-    let mut i = classes.len();
     let mut j = count;
-    while j < i {
-        i -= 1;
+    for i in (0..classes.len()).rev() {
+        if i < j {
+            return;
+        }
         if classes::is_removed(classes[i]) {
             levels[i] = classes::REMOVED_LEVEL;
         } else {

@@ -3,8 +3,5 @@
 use Rattle.resolve.proofs.ScatterLaws.{Placing}
 use Rattle.resolve.proofs.scatter.put_back.Given as goal
 
-abbrev pub invariant-loop-j : goal.invariant-loop-j
-invariant-loop-j l = Placing l.classes l.initial.levels l.count l.levels l.i l.j
-
-abbrev pub decreases-loop-j : goal.decreases-loop-j
-decreases-loop-j l = l.i
+abbrev pub invariant-loop-i : goal.invariant-loop-i
+invariant-loop-i l = Placing l.classes l.initial.levels l.count l.levels l.i l.j
