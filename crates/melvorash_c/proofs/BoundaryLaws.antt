@@ -3,7 +3,7 @@ use Prim.Native.Nat.{ℕ, ◌<◌}
 use native.Mathlib.Omega.{arith}
 use mathlib.Core.Path.{◌≡◌, refl, sym, ap, subst, ◌∙◌}
 use mathlib.Core.List.{List}
-use mathlib.Core.Option.{Option, none, some}
+use Rattle.std.specs.Prelude.{Option, None, Some}
 use mathlib.Core.Bool.{false}
 use borrow.Author.Tests.{ne_eqb}
 use lib.Dec.{eqb}
@@ -37,8 +37,8 @@ order_reads_back sound value h = refl
 order_reads_back (refuse number place) value h = rw (not_0 number h)
 
 level_reads_back : (check : Check) (found : Option ℕ) → Numbered check → Reads (level_or_none (answered check found))
-level_reads_back sound none h = refl
-level_reads_back sound (some level) h = refl
+level_reads_back sound None h = refl
+level_reads_back sound (Some level) h = refl
 level_reads_back (refuse number place) found h = refusal_reads number place h
 
 pub cut_reads : (cs : List ℕ) → Reads (cut_answer cs)

@@ -12,7 +12,6 @@ ghost use Rattle.melvorash.specs.Answers.{Leaves, OrdersLine, OrdersLines};
 ghost use Rattle.melvorash_c.specs.Boundary.{level_or_none, numbers_of, read_off, order_numbers_of, order_read_off, Exports};
 
 pub use answer::{Answer, OrderAnswer};
-use answer::{of_base, of_cut, of_levels, of_marks, of_order};
 
 // The first paragraph's length.
 #[unsafe(no_mangle)]
@@ -20,7 +19,7 @@ pub extern "C" fn melvorash_cut(classes: &[u8]) -> Answer
     ensures { Exports numbers_of read_off (λ a. a ≡ cut_answer classes.now) result }
 {
     let paragraph = melvorash::cut(classes);
-    of_cut(paragraph)
+    Answer::from(paragraph)
 }
 
 // The base level of one paragraph, by its text, or 2 where it decides none.
@@ -29,7 +28,7 @@ pub extern "C" fn melvorash_base(classes: &[u8]) -> Answer
     ensures { Exports numbers_of read_off (λ a. a ≡ level_or_none (base_answer classes.now)) result }
 {
     let by_text = melvorash::base(classes);
-    of_base(by_text)
+    Answer::from(by_text)
 }
 
 // The levels after X1 to X9, and the base level used: with request 2 that of the text, or else `fallback`.
@@ -43,7 +42,7 @@ pub extern "C" fn melvorash_explicit(
     ensures { Exports numbers_of read_off (λ a. Leaves (levels_answer classes.now request fallback levels.old) (explicit_buffer classes.now request fallback levels.old) a levels.new) result }
 {
     let explicit = melvorash::explicit_levels(classes, request, fallback, levels);
-    of_levels(explicit)
+    Answer::from(explicit)
 }
 
 // The levels after I1 and I2, and the base level used, as above.
@@ -57,7 +56,7 @@ pub extern "C" fn melvorash_resolve(
     ensures { Exports numbers_of read_off (λ a. Leaves (levels_answer classes.now request fallback levels.old) (resolve_buffer classes.now request fallback levels.old) a levels.new) result }
 {
     let resolved = melvorash::resolve_levels(classes, request, fallback, levels);
-    of_levels(resolved)
+    Answer::from(resolved)
 }
 
 // One line's positions from left to right, how many, and how many the passes reversed.
@@ -73,7 +72,7 @@ pub extern "C" fn melvorash_order_line(
     ensures { Exports order_numbers_of order_read_off (λ a. OrdersLine classes.now levels.now base from to order.old a order.new) result }
 {
     let line = melvorash::order_line(classes, levels, base, from, to, order);
-    of_order(line)
+    OrderAnswer::from(line)
 }
 
 // The positions of all lines, each line's following the last one's, how many, and how many the passes reversed, both added
@@ -89,7 +88,7 @@ pub extern "C" fn melvorash_order_lines(
     ensures { Exports order_numbers_of order_read_off (λ a. OrdersLines classes.now levels.now base ends.now order.old a order.new) result }
 {
     let lines = melvorash::order_lines(classes, levels, base, ends, order);
-    of_order(lines)
+    OrderAnswer::from(lines)
 }
 
 // The order in which the characters are drawn, and how many.
@@ -98,5 +97,5 @@ pub extern "C" fn melvorash_marks(classes: &[u8], flags: &[u8], order: &mut [u16
     ensures { Exports numbers_of read_off (λ a. DrawsMarks classes.now flags.now order.old a order.new) result }
 {
     let drawing = marks::drawing_order(classes, flags, order);
-    of_marks(drawing)
+    Answer::from(drawing)
 }

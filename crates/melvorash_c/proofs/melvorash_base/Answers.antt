@@ -8,4 +8,4 @@ use Rattle.melvorash_c.proofs.melvorash_base.Goals as goal
 pub returns : goal.returns
 returns c =
     let told = ap level_or_none c.base-by_text.ensures in
-    exports _ _ _ c.of_base.ensures told (base_reads _) told
+    exports _ _ _ c.from.ensures told (base_reads _) told

@@ -4,4 +4,4 @@ use Rattle.melvorash_c.proofs.BoundaryLaws.{cut_reads, exports}
 use Rattle.melvorash_c.proofs.melvorash_cut.Goals as goal
 
 pub returns : goal.returns
-returns c = exports _ _ _ c.of_cut.ensures c.cut-paragraph.ensures (cut_reads _) c.cut-paragraph.ensures
+returns c = exports _ _ _ c.from.ensures c.cut-paragraph.ensures (cut_reads _) c.cut-paragraph.ensures

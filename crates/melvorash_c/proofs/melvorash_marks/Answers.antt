@@ -6,4 +6,4 @@ use Rattle.melvorash_c.proofs.melvorash_marks.Goals as goal
 pub returns : goal.returns
 returns c =
     let called = c.drawing_order-drawing.ensures in
-    exports _ _ _ c.of_marks.ensures called.told (marks_reads _ _ _) called
+    exports _ _ _ c.from.ensures called.told (marks_reads _ _ _) called

@@ -4,4 +4,4 @@ use Rattle.melvorash_c.proofs.BoundaryLaws.{line_exports}
 use Rattle.melvorash_c.proofs.melvorash_order_line.Goals as goal
 
 pub returns : goal.returns
-returns c = line_exports _ _ _ _ _ _ c.of_order.ensures c.order_line-line.ensures
+returns c = line_exports _ _ _ _ _ _ c.from.ensures c.order_line-line.ensures

@@ -4,4 +4,4 @@ use Rattle.melvorash_c.proofs.BoundaryLaws.{lines_exports}
 use Rattle.melvorash_c.proofs.melvorash_order_lines.Goals as goal
 
 pub returns : goal.returns
-returns c = lines_exports _ _ _ _ _ c.of_order.ensures c.order_lines-lines.ensures
+returns c = lines_exports _ _ _ _ _ c.from.ensures c.order_lines-lines.ensures

@@ -6,4 +6,4 @@ use Rattle.melvorash_c.proofs.melvorash_resolve.Goals as goal
 pub returns : goal.returns
 returns c =
     let called = c.resolve_levels-resolved.ensures in
-    exports _ _ _ c.of_levels.ensures called.told (levels_reads _ _ _ _) called
+    exports _ _ _ c.from.ensures called.told (levels_reads _ _ _ _) called
