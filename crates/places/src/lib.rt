@@ -4,47 +4,56 @@
 // line's; a place from the line's first, or in a block of places from the block's.
 #![tactic(auto)]
 
-ghost use Rattle.std.specs.Prelude.{◌≡◌, ◌<◌, length, get_or, set};
+ghost use Rattle.std.specs.Prelude.{◌≡◌, ◌<◌, ℕ, length, get_or, set};
+
+// Where a buffer is read or written, by whichever of the two counts it.
+pub trait Spot: Copy {
+    ghost number: { Self → ℕ };
+
+    fn number(self) -> usize
+        ensures { result ≡ number self };
+}
 
 // In memory order: classes, and levels before they are packed.
-#[derive(Clone, Copy)]
+#[derive(Debug, Clone, Copy, PartialEq, Eq, PartialOrd, Ord)]
 pub struct Position(pub usize);
 
 // From left to right: the order, and the kept positions' levels.
-#[derive(Clone, Copy)]
+#[derive(Debug, Clone, Copy, PartialEq, Eq, PartialOrd, Ord)]
 pub struct Place(pub usize);
 
-pub fn byte_at(bytes: &[u8], at: Position) -> u8
-    requires { at.0 < length bytes.now }
-    ensures { result ≡ get_or bytes.now at.0 0 }
-{
-    let i = at.0;
-    bytes[i]
+impl Spot for Position {
+    ghost number = { λ at. at.0 };
+
+    fn number(self) -> usize {
+        let Position(number) = self;
+        number
+    }
 }
 
-pub fn put_byte(bytes: &mut [u8], at: Position, byte: u8)
-    requires { at.0 < length bytes.old }
-    ensures { bytes.new ≡ set bytes.old at.0 byte }
-{
-    let i = at.0;
-    bytes[i] = byte;
+impl Spot for Place {
+    ghost number = { λ at. at.0 };
+
+    fn number(self) -> usize {
+        let Place(number) = self;
+        number
+    }
 }
 
-// The level of what stood at a place before any pass.
-pub fn level_of(levels: &[u8], at: Place) -> u8
-    requires { at.0 < length levels.now }
-    ensures { result ≡ get_or levels.now at.0 0 }
+// A class or level at a position, or the level of what stood at a place before any pass.
+pub fn byte_at<At: Spot>(bytes: &[u8], at: At) -> u8
+    requires { At.number at < length bytes.now }
+    ensures { result ≡ get_or bytes.now (At.number at) 0 }
 {
-    let i = at.0;
-    levels[i]
+    bytes[at.number()]
 }
 
-pub fn pack(levels: &mut [u8], at: Place, level: u8)
-    requires { at.0 < length levels.old }
-    ensures { levels.new ≡ set levels.old at.0 level }
+// A level, written at a position, or packed to a place.
+pub fn put_byte<At: Spot>(bytes: &mut [u8], at: At, byte: u8)
+    requires { At.number at < length bytes.old }
+    ensures { bytes.new ≡ set bytes.old (At.number at) byte }
 {
-    let i = at.0;
-    levels[i] = level;
+    bytes[at.number()] = byte;
 }
 
 pub fn put(order: &mut [u16], at: Place, what: Position)
@@ -52,14 +61,12 @@ pub fn put(order: &mut [u16], at: Place, what: Position)
     requires what_bound { what.0 < 65536 }
     ensures { order.new ≡ set order.old at.0 what.0 }
 {
-    let i = at.0;
-    order[i] = what.0 as u16;
+    order[at.0] = what.0 as u16;
 }
 
 pub fn position_of(order: &[u16], at: Place) -> Position
     requires { at.0 < length order.now }
     ensures { (result.0 ≡ get_or order.now at.0 0) × (result.0 < 65536) }
 {
-    let i = at.0;
-    Position(order[i] as usize)
+    Position(order[at.0] as usize)
 }
