@@ -1,85 +1,77 @@
--- What is read off a list of levels from its front on: the highest, the lowest and the lowest odd.
+-- What is read off a list of levels: the highest, the lowest and the lowest odd.
 -- Assumes nothing.
-use Rattle.std.specs.Prelude.{if◌then◌else◌}
-use Prim.Native.Nat.{ℕ, ◌+◌, ◌-◌, ◌*◌, ◌%◌, ◌≤◌, ◌<◌, max, min}
-use native.Mathlib.Omega.{arith}
-use mathlib.Core.Path.{◌≡◌, refl, sym, ap, ◌∙◌}
-use mathlib.Core.Bool.{Bool, true, false}
-use mathlib.Core.List.{List, [], ◌∷◌}
-use lib.ListN.{length, get_or, drop, drop_of_length-le}
-use borrow.Author.Tests.{eqb-true, eqb-false}
+use Rattle.std.proofs.Common.{◌≡◌, ℕ, zero, suc, ◌≤◌, get_or, max, min, Bool, true, false, List, [], ◌∷◌, if◌then◌else◌, refl, ap, sym, ◌∙◌, arith}
+use mathlib.Core.List.{map}
+use Rattle.std.specs.List.{fold, reduce}
+use Rattle.std.specs.Option.{unwrap_or, option_map}
+use Rattle.std.specs.Prelude.{Option}
+use Rattle.std.proofs.lemmas.Iterator.Adapters.{option_map_id}
 use Rattle.laws.specs.Choice.{is_odd}
-use Rattle.rules.specs.Line.{Item, highest, lowest_odd}
-use Rattle.laws.proofs.Lists.{drop_next}
+use Rattle.rules.specs.Line.{highest, lowest_odd}
 use Rattle.level_range.specs.Levels.{at_levels, lowest}
 
--- one more element is taken into a total, which stays what it is of the whole
-pub scan_next : (total : ℕ → List ℕ → ℕ) (whole acc acc' : ℕ) (xs : List ℕ) (i : ℕ) → ((rest : List ℕ) → total acc' rest ≡ total acc (get_or xs i 0 ∷ rest)) → i < length xs → total acc (drop i xs) ≡ whole → total acc' (drop (i + 1) xs) ≡ whole
-scan_next total whole acc acc' xs i e h t = e (drop (i + 1) xs) ∙ ap (total acc) (sym (drop_next xs i h)) ∙ t
-
-pub scan_ended : (total : ℕ → List ℕ → ℕ) (whole acc : ℕ) (xs : List ℕ) (i : ℕ) → length xs ≤ i → total acc (drop i xs) ≡ whole → total acc [] ≡ whole
-scan_ended total whole acc xs i h t = ap (total acc) (sym (drop_of_length-le xs h)) ∙ t
-
--- the higher of a level and the highest of the levels
-abbrev pub top_of : ℕ → List ℕ → ℕ
-top_of top ls = max top (highest (at_levels ls))
-
-pub top_of_begun : (ls : List ℕ) → top_of 0 ls ≡ highest (at_levels ls)
-top_of_begun ls = omega arith
-
-pub top_of_next : (top l read top' : ℕ) → top' ≡ max top read → read ≡ l → (rest : List ℕ) → top_of top' rest ≡ top_of top (l ∷ rest)
+-- what `max` picks, or 0 where there is none
+fold_max : (a : ℕ) (ls : List ℕ) → fold max a ls ≡ max a (highest (at_levels ls))
 unfolding highest
-top_of_next top l read top' e r rest = omega arith
+fold_max a [] = omega arith
+fold_max a (l ∷ ls) = let rest : fold max (max a l) ls ≡ max (max a l) (highest (at_levels ls)) = fold_max (max a l) ls in omega arith
 
-pub top_of_none : (top : ℕ) → top_of top [] ≡ top
+highest_picked : (ls : List ℕ) → unwrap_or (reduce max ls) 0 ≡ highest (at_levels ls)
 unfolding highest
-top_of_none top = omega arith
+highest_picked [] = refl
+highest_picked (l ∷ ls) = fold_max l ls
 
+pub highest_answered : (ls : List ℕ) (r : Option ℕ) → option_map (λ n. n) r ≡ reduce max ls → unwrap_or r 0 ≡ highest (at_levels ls)
+highest_answered ls r e = ap (λ o. unwrap_or o 0) (sym (option_map_id r) ∙ e) ∙ highest_picked ls
+
+-- what `min` picks, or the given one where there is none: the first is not above it
 lowest_min : (a none : ℕ) (ls : List ℕ) → lowest (min none a) ls ≡ min a (lowest none ls)
 unfolding lowest
 lowest_min a none [] = omega arith
 lowest_min a none (l ∷ ls) = let rest : lowest (min none a) ls ≡ min a (lowest none ls) = lowest_min a none ls in omega arith
 
-pub lowest_next : (least l read least' : ℕ) → least' ≡ min least read → read ≡ l → (rest : List ℕ) → lowest least' rest ≡ lowest least (l ∷ rest)
+fold_min : (a : ℕ) (ls : List ℕ) → fold min a ls ≡ lowest a ls
 unfolding lowest
-lowest_next least l read least' e r rest = ap (λ (n : ℕ). lowest n rest) (e ∙ ap (min least) r) ∙ lowest_min l least rest
+fold_min a [] = refl
+fold_min a (l ∷ ls) = fold_min (min a l) ls ∙ lowest_min l a ls
 
-pub lowest_none : (least : ℕ) → lowest least [] ≡ least
+lowest_picked : (none : ℕ) (ls : List ℕ) → ((k : ℕ) → get_or ls k 0 ≤ none) → unwrap_or (reduce min ls) none ≡ lowest none ls
 unfolding lowest
-lowest_none least = refl
+lowest_picked none [] h = refl
+lowest_picked none (l ∷ ls) h =
+    let up_to : min none l ≡ l = let first : l ≤ none = h 0 in omega arith in
+    fold_min l ls ∙ ap (λ n. lowest n ls) (sym up_to) ∙ lowest_min l none ls
 
-abbrev pub low_of : ℕ → List ℕ → ℕ
-low_of low ls = lowest_odd low (at_levels ls)
+pub lowest_answered : (none : ℕ) (ls : List ℕ) (r : Option ℕ) → option_map (λ n. n) r ≡ reduce min ls → ((k : ℕ) → get_or ls k 0 ≤ none) → unwrap_or r none ≡ lowest none ls
+lowest_answered none ls r e h = ap (λ o. unwrap_or o none) (sym (option_map_id r) ∙ e) ∙ lowest_picked none ls h
 
-min_if : (b : Bool) (a l low low' : ℕ) → low' ≡ min a low → (if b then min l low' else low') ≡ min a (if b then min l low else low)
-min_if true a l low low' e = omega arith
-min_if false a l low low' e = e
+-- an odd level counts as itself, and an even one as the given one, which is as none
+-- an odd level counts as itself, and an even one as the given one, which is as none
+abbrev pub odd_or : ℕ → ℕ → ℕ
+odd_or none l = if is_odd l then l else none
 
-pub low_min : (a none : ℕ) (xs : List Item) → lowest_odd (min a none) xs ≡ min a (lowest_odd none xs)
-unfolding lowest_odd
-low_min a none [] = refl
-low_min a none (x ∷ xs) = min_if (is_odd x.level) a x.level (lowest_odd none xs) (lowest_odd (min a none) xs) (low_min a none xs)
+lowest_most : (none : ℕ) (ls : List ℕ) → lowest none ls ≤ none
+unfolding lowest
+lowest_most none [] = omega arith
+lowest_most none (l ∷ ls) = let rest : lowest none ls ≤ none = lowest_most none ls in omega arith
 
--- an odd level counts as itself and an even one as 255, which is no lower than any byte
-low_if : (b : Bool) (l low : ℕ) (rest : List ℕ) → low < 256 → low_of (min low (if b then l else 255)) rest ≡ (if b then min l (low_of low rest) else low_of low rest)
-low_if true l low rest h = let e : min low l ≡ min l low = omega arith in ap (λ (n : ℕ). low_of n rest) e ∙ low_min l low (at_levels rest)
-low_if false l low rest h = let e : min low 255 ≡ low = omega arith in ap (λ (n : ℕ). low_of n rest) e
+counted_if : (b : Bool) (l none low low' : ℕ) → low ≤ none → low ≡ low' → min (if b then l else none) low ≡ (if b then min l low' else low')
+counted_if true l none low low' h e = ap (min l) e
+counted_if false l none low low' h e = omega arith
 
--- that count by numbers alone
-count_if : (b : Bool) (l r : ℕ) → l < 256 → is_odd l ≡ b → r ≡ max l ((1 - l % 2) * 255) → r ≡ (if b then l else 255)
-count_if true l r h e m = let odd : l % 2 ≡ 1 = eqb-true (l % 2) 1 e in omega arith
-count_if false l r h e m =
-    let no_one : ¬ (l % 2 ≡ 1) = eqb-false (l % 2) 1 e in
-    omega arith
+most_if : (b : Bool) (l none : ℕ) → l ≤ none → (if b then l else none) ≤ none
+most_if true l none h = h
+most_if false l none h = omega arith
 
-pub counted : (l r : ℕ) → l < 256 → r ≡ max l ((1 - l % 2) * 255) → r ≡ (if is_odd l then l else 255)
-counted l r h m = count_if (is_odd l) l r h refl m
+lowest_counted : (none : ℕ) (ls : List ℕ) → lowest none (map (odd_or none) ls) ≡ lowest_odd none (at_levels ls)
+unfolding lowest lowest_odd
+lowest_counted none [] = refl
+lowest_counted none (l ∷ ls) = counted_if (is_odd l) l none _ _ (lowest_most none (map (odd_or none) ls)) (lowest_counted none ls)
 
-pub low_of_next : (low l read counted low' : ℕ) → low < 256 → low' ≡ min low counted → counted ≡ (if is_odd read then read else 255) → read ≡ l → (rest : List ℕ) → low_of low' rest ≡ low_of low (l ∷ rest)
-unfolding lowest_odd
-low_of_next low l read counted low' h e k r rest =
-    ap (λ (n : ℕ). low_of n rest) (e ∙ ap (min low) (k ∙ ap (λ (n : ℕ). if is_odd n then n else 255) r)) ∙ low_if (is_odd l) l low rest h
+odd_or_most : (none : ℕ) (ls : List ℕ) → ((k : ℕ) → get_or ls k 0 ≤ none) → (k : ℕ) → get_or (map (odd_or none) ls) k 0 ≤ none
+odd_or_most none [] h k = omega arith
+odd_or_most none (l ∷ ls) h zero = most_if (is_odd l) l none (h 0)
+odd_or_most none (l ∷ ls) h (suc k) = odd_or_most none ls (λ i. h (suc i)) k
 
-pub low_of_none : (low : ℕ) → low_of low [] ≡ low
-unfolding lowest_odd
-low_of_none low = refl
+pub lowest_odd_answered : (none : ℕ) (ls : List ℕ) (r : Option ℕ) → option_map (λ n. n) r ≡ reduce min (map (odd_or none) ls) → ((k : ℕ) → get_or ls k 0 ≤ none) → unwrap_or r none ≡ lowest_odd none (at_levels ls)
+lowest_odd_answered none ls r e h = lowest_answered none (map (odd_or none) ls) r e (odd_or_most none ls h) ∙ lowest_counted none ls

@@ -19,7 +19,6 @@ use Rattle.rules.proofs.PassLaws.{passes_none}
 use Rattle.rules.proofs.ReversalLaws.{reverses_sum, slots_none}
 use Rattle.level_range.specs.Levels.{at_levels}
 use Rattle.reversal.specs.Passes.{pass_by, passes_by}
-use Rattle.level_range.proofs.ScanLaws.{low_min}
 
 -- at which of the levels a pass would turn
 abbrev tests : ℕ → List ℕ → List Bool
@@ -133,6 +132,15 @@ odd_within : (none : ℕ) (xs : List Item) → (lowest_odd none xs ≤ highest x
 unfolding highest lowest_odd
 odd_within none [] = inr refl
 odd_within none (x ∷ xs) = within_if (is_odd x.level) x.level (lowest_odd none xs) (highest xs) refl (odd_within none xs)
+
+min_if : (b : Bool) (a l low low' : ℕ) → low' ≡ min a low → (if b then min l low' else low') ≡ min a (if b then min l low else low)
+min_if true a l low low' e = omega arith
+min_if false a l low low' e = e
+
+low_min : (a none : ℕ) (xs : List Item) → lowest_odd (min a none) xs ≡ min a (lowest_odd none xs)
+unfolding lowest_odd
+low_min a none [] = refl
+low_min a none (x ∷ xs) = min_if (is_odd x.level) a x.level (lowest_odd none xs) (lowest_odd (min a none) xs) (low_min a none xs)
 
 -- among bytes the lowest odd level may be taken as 255 where there is none: the highest is then even, so below it
 module _ (xs : List Item) (byte : highest xs < 256) where

@@ -1,21 +1,14 @@
--- `level_range::lowest_odd_level` meets its contract. The invariant: the lowest odd level of what is left, or else what is found, is that of the whole. The measure is what is left.
+-- `level_range::lowest_odd_level` meets its contract: what `min` picks where each even level counts as 255.
 -- Assumes nothing.
-use mathlib.Core.Path.{refl, sym, ◌∙◌}
-use Rattle.level_range.proofs.ScanLaws.{scan_next, scan_ended, low_of, low_of_next, low_of_none}
-use borrow.Author.Rules.{rules}
+use Rattle.std.proofs.Common.{◌∙◌, arith, rules}
+use Rattle.std.proofs.lemmas.Iterator.{YieldsList-from_slice, YieldsList-from_map}
+use Rattle.std.proofs.lemmas.Iterator.Consumers.{YieldsList-at, min_from_yields_List}
+use Rattle.level_range.proofs.ScanLaws.{odd_or, lowest_odd_answered}
 use Rattle.level_range.proofs.lowest_odd_level.Goals as goal
 
-pub loop-i-init : goal.loop-i-init
-loop-i-init c = (search rules, refl, search rules)
-
-pub loop-i-preserved : goal.loop-i-preserved
-loop-i-preserved c = (
-  search rules,
-  scan_next low_of _ _ _ _ _
-      (low_of_next _ _ _ _ _ c.loop-i.invariant.2 c.lower-low.ensures c.odd_or_highest.ensures c.level_of.ensures)
-      c.loop-i-test.true c.loop-i.invariant.1,
-  search rules,
-)
-
 pub returns : goal.returns
-returns c = sym (low_of_none _) ∙ scan_ended low_of _ _ _ _ c.loop-i-test.false c.loop-i.invariant.1
+returns c =
+    c.unwrap_or.ensures ∙ lowest_odd_answered 255 c.args.levels.now c.min.result
+    (min_from_yields_List c.map.result c.min.result c.min.ensures.ran
+    (YieldsList-from_map _ (odd_or 255) (YieldsList-at c.map.ensures.source (YieldsList-from_slice c.args.levels.now cc)) c.map.ensures.closure (λ x r q k. search rules)))
+    (λ k. let fits = c.type_inv.levels k in omega arith)
