@@ -1,26 +1,18 @@
--- `slots::reversed` meets its contract. The invariant: what is added so far and the sum over what is left make the whole; it is no more than
--- a byte for each place. The measure is what is left.
+-- `slots::reversed` meets its contract: what is added for a level, less the one below the lowest, is what its slot counts.
 -- Assumes nothing.
-use native.Mathlib.Omega.{arith}
-use mathlib.Core.Path.{refl}
-use Rattle.laws.proofs.SumLaws.{sum_next, sum_done}
+use Rattle.std.proofs.Common.{◌≡◌, ◌∙◌, ◌-◌, ◌≤◌, ℕ, suc, List, [], ◌∷◌, refl, arith, rules}
+use Rattle.std.specs.List.{sum_by}
+use Rattle.std.proofs.lemmas.List.Sums.{sum_by-cons}
+use Rattle.laws.specs.Sums.{sum_of}
 use Rattle.rules.specs.Reversals.{slots}
-use borrow.Author.Rules.{rules}
-use Rattle.slots.proofs.reversed.Invariants.{slot}
 use Rattle.slots.proofs.reversed.Goals as goal
 
-pub loop-i-init : goal.loop-i-init
-loop-i-init c = (search rules, search rules, omega arith)
-
-pub loop-i-preserved : goal.loop-i-preserved
-loop-i-preserved c =
-    let args = c.args in
-    let h = c.loop-i.invariant in (
-      search rules,
-      search rules,
-      sum_next (slot args.lowest) args.levels.now _ _ h.2 _ _ c.loop-i-test.true (omega (arith, c.above-total.ensures, c.level_of.ensures, c.requires)) refl,
-    )
+slots_are : (lowest : ℕ) (ls : List ℕ) → 1 ≤ lowest → sum_by (λ l. l - (lowest - 1)) ls ≡ slots lowest ls
+unfolding slots
+slots_are lowest [] h = refl
+slots_are lowest (l ∷ ls) h = let rest : sum_by (λ l. l - (lowest - 1)) ls ≡ sum_of (λ l. suc l - lowest) ls = slots_are lowest ls h in omega (arith, sum_by-cons (λ l. l - (lowest - 1)) l ls)
 
 pub returns : goal.returns
-unfolding slots
-returns c = sum_done _ _ _ _ c.loop-i.invariant.2 c.loop-i-test.false
+returns c =
+    let added : c.sum-total.result ≡ sum_by (λ l. l - (c.args.lowest - 1)) c.args.levels.now = search rules in
+    added ∙ slots_are c.args.lowest c.args.levels.now c.requires.le_lowest
