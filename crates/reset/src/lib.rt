@@ -10,7 +10,7 @@ use places::Position;
 
 // What a step of the walk gives: the level here, and whether only blanks stand between the position before this one and a
 // separator or the line's end.
-#[derive(Clone, Copy)]
+#[derive(Debug, Clone, Copy, PartialEq, Eq)]
 struct Stepped {
     level: u8,
     ahead: bool,
@@ -30,32 +30,30 @@ fn back(base: u8) -> Stepped
 fn step_in_blanks(class: u8, level: u8, base: u8) -> Stepped
     ensures { Steps base class level true result }
 {
-    if classes::is_blank(class) {
-        return back(base);
-    }
-    if classes::is_separator(class) {
-        return back(base);
-    }
-    let removed = classes::is_removed(class);
-    Stepped {
-        level,
-        ahead: removed,
+    if classes::is_blank(class) || classes::is_separator(class) {
+        back(base)
+    } else {
+        Stepped {
+            level,
+            ahead: classes::is_removed(class),
+        }
     }
 }
 
 // The flag is asked first, since it seldom changes: where it is not set only a separator counts.
+#[tactic(auto, using(crate::proofs::StepLaws::set_by_separator))]
 fn step(class: u8, level: u8, base: u8, ahead: bool) -> Stepped
     ensures { Steps base class level ahead result }
 {
     if ahead {
-        return step_in_blanks(class, level, base);
-    }
-    if classes::is_separator(class) {
-        return back(base);
-    }
-    Stepped {
-        level,
-        ahead: false,
+        step_in_blanks(class, level, base)
+    } else if classes::is_separator(class) {
+        back(base)
+    } else {
+        Stepped {
+            level,
+            ahead: false,
+        }
     }
 }
 
@@ -66,10 +64,8 @@ pub fn reset(classes: &[u8], levels: &[u8], base: u8, out: &mut [u8])
     requires classes_in_bounds { length classes.now ≤ length out.old }
     ensures { out.new ≡ over (L1 base classes.now levels.now) out.old }
 {
-    let mut i = classes.len();
     let mut ahead = true;
-    while 0 < i {
-        i -= 1;
+    for i in (0..classes.len()).rev() {
         let class = places::byte_at(classes, Position(i));
         let level = places::byte_at(levels, Position(i));
         let stepped = step(class, level, base, ahead);
