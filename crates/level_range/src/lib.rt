@@ -1,8 +1,8 @@
-// The highest and the lowest of a line's levels, and the lowest odd one. Each looks at every level and stays with bytes, so
-// that many are read at once.
+// The highest and the lowest of a line's levels, and the lowest odd one. Each fold looks at every level and stays with bytes,
+// so that many are read at once; std's `max` and `min` over the levels take the first apart, which costs a short line more.
 #![tactic(auto)]
 
-ghost use Rattle.std.specs.Prelude.{◌≡◌, max, min, if◌then◌else◌};
+ghost use Rattle.std.specs.Prelude.{◌≡◌, if◌then◌else◌};
 ghost use Rattle.laws.specs.Choice.{is_odd};
 ghost use Rattle.rules.specs.Line.{highest, lowest_odd};
 ghost use Rattle.level_range.specs.Levels.{at_levels, lowest};
@@ -11,14 +11,14 @@ ghost use Rattle.level_range.specs.Levels.{at_levels, lowest};
 pub fn highest_level(levels: &[u8]) -> u8
     ensures { result ≡ highest (at_levels levels.now) }
 {
-    levels.iter().copied().max().unwrap_or(0)
+    levels.iter().fold(0, |top, level| top.max(*level))
 }
 
 // The lowest level, or 255 where there is none.
 pub fn lowest_level(levels: &[u8]) -> u8
     ensures { result ≡ lowest 255 levels.now }
 {
-    levels.iter().copied().min().unwrap_or(255)
+    levels.iter().fold(255, |least, level| least.min(*level))
 }
 
 // An odd level is itself and an even one counts as 255, by numbers alone: no branch.
@@ -34,7 +34,5 @@ pub fn lowest_odd_level(levels: &[u8]) -> u8
 {
     levels
         .iter()
-        .map(|level| odd_or_highest(*level))
-        .min()
-        .unwrap_or(255)
+        .fold(255, |low, level| low.min(odd_or_highest(*level)))
 }
