@@ -16,19 +16,15 @@ fn gather_kept(classes: &[u8], from: Position, levels: &mut [u8], order: &mut [u
     requires classes_bound { from.0 + length classes.now ≤ 65536 }
     ensures { LaidOut (items from.0 classes.now levels.old) levels.old order.old result levels.new order.new }
 {
-    let start = from.0;
-    let mut i = 0;
     let mut k = 0;
-    while i < classes.len() {
-        if classes::is_removed(places::byte_at(classes, Position(i))) {
-            i += 1;
-        } else {
-            let level = places::byte_at(levels, Position(i));
-            places::pack(levels, Place(k), level);
-            places::put(order, Place(k), Position(start + i));
-            k += 1;
-            i += 1;
+    for (i, class) in classes.iter().enumerate() {
+        if classes::is_removed(*class) {
+            continue;
         }
+        let level = places::byte_at(levels, Position(i));
+        places::put_byte(levels, Place(k), level);
+        places::put(order, Place(k), Position(from.0 + i));
+        k += 1;
     }
     k
 }
@@ -39,11 +35,8 @@ fn number_all(from: Position, count: usize, order: &mut [u16])
     requires count_bound { from.0 + count ≤ 65536 }
     ensures { order.new ≡ over (up_from from.0 count) order.old }
 {
-    let start = from.0;
-    let mut i = 0;
-    while i < count {
-        places::put(order, Place(i), Position(start + i));
-        i += 1;
+    for i in 0..count {
+        places::put(order, Place(i), Position(from.0 + i));
     }
 }
 
@@ -56,8 +49,9 @@ pub fn gather(classes: &[u8], from: Position, levels: &mut [u8], order: &mut [u1
     ensures { LaidOut (items from.0 classes.now levels.old) levels.old order.old result levels.new order.new }
 {
     if parts::any_removed(classes) {
-        return gather_kept(classes, from, levels, order);
+        gather_kept(classes, from, levels, order)
+    } else {
+        number_all(from, classes.len(), order);
+        classes.len()
     }
-    number_all(from, classes.len(), order);
-    classes.len()
 }

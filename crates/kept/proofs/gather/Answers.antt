@@ -5,7 +5,7 @@ use Rattle.kept.proofs.GatherLaws.{all_gathered}
 use borrow.Author.Rules.{rules}
 use Rattle.kept.proofs.gather.Goals as goal
 
-pub returns : goal.returns
-returns c =
+pub returns-else-any_removed : goal.returns-else-any_removed
+returns-else-any_removed c =
     let args = c.args in
     all_gathered args.from.0 args.classes.now args.levels.now _ _ (search rules) (known c.any_removed.ensures c.if-any_removed.false) c.number_all.ensures

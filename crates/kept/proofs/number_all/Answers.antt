@@ -1,4 +1,4 @@
--- `kept::number_all` meets its contract. The invariant: the places before i hold positions in a row. The measure is how many are left.
+-- `kept::number_all` meets its contract. The invariant: the places before i hold positions in a row.
 -- Assumes nothing.
 use Rattle.kept.proofs.GatherLaws.{number_begun, number_next, number_ended}
 use borrow.Author.Rules.{rules}
@@ -8,8 +8,7 @@ pub loop-i-init : goal.loop-i-init
 loop-i-init c = number_begun _ _ _
 
 pub loop-i-preserved : goal.loop-i-preserved
-loop-i-preserved c =
-    number_next _ _ _ _ _ _ (search rules) c.loop-i-test.true c.put.ensures c.loop-i.invariant
+loop-i-preserved c = rw c.put.ensures (number_next _ _ _ _ _ (search rules) c.loop-i-test.true c.loop-i.invariant)
 
 pub returns : goal.returns
-returns c = number_ended _ _ _ _ _ (search rules) c.loop-i-test.false c.loop-i.invariant
+returns c = number_ended _ _ _ _ _ (search rules) c.loop-i-test.false (search rules) c.loop-i.invariant
