@@ -2,37 +2,9 @@
 // are read by place, as they were before any pass.
 #![tactic(auto)]
 
-ghost use Rattle.std.specs.Prelude.{◌≡◌, ◌+◌, ◌≤◌, ◌<◌, [], leb, length, get_or, set, drop};
+ghost use Rattle.std.specs.Prelude.{◌≡◌, ℕ, ◌≤◌, Bool, true, [], leb, length};
 ghost use Rattle.laws.specs.Stretches.{span};
-ghost use Rattle.reversal.specs.Passes.{below, Skipped, pass_by, passes_by, Turned};
-
-use places::Place;
-
-fn swap(order: &mut [u16], a: Place, b: Place)
-    requires a_in_bounds { a.0 < length order.old }
-    requires b_in_bounds { b.0 < length order.old }
-    ensures { order.new ≡ set (set order.old a.0 (get_or order.old b.0 0)) b.0 (get_or order.old a.0 0) }
-{
-    let left = places::position_of(order, a);
-    let right = places::position_of(order, b);
-    places::put(order, a, right);
-    places::put(order, b, left);
-}
-
-// What stands from one place up to, not including, another is turned round.
-fn reverse(order: &mut [u16], from: Place, to: Place)
-    requires from_le_to { from.0 ≤ to.0 }
-    requires to_in_bounds { to.0 ≤ length order.old }
-    ensures { Turned from.0 to.0 order.old order.new }
-{
-    let mut i = from.0;
-    let mut j = to.0;
-    while 1 < j - i {
-        j -= 1;
-        swap(order, Place(i), Place(j));
-        i += 1;
-    }
-}
+ghost use Rattle.reversal.specs.Passes.{below, Skipped, pass_by, passes_by};
 
 // How many places are asked for at once where stretches are long.
 const BLOCK: usize = 16;
@@ -40,91 +12,100 @@ const BLOCK: usize = 16;
 // With fewer places left they are looked at one by one: on a short line a block gains nothing.
 const FAR: usize = 64;
 
-// Passes over whole blocks from `from` on that are below the level.
-fn blocks_start(levels: &[u8], from: Place, level: u8) -> Place
-    requires { from.0 ≤ length levels.now }
-    ensures { Skipped (below level) levels.now from.0 result.0 }
-{
-    let mut i = from.0;
-    while FAR <= levels.len() - i {
-        if level <= level_range::highest_level(&levels[i..i + BLOCK]) {
-            return Place(i);
-        }
-        i += BLOCK;
-    }
-    Place(i)
+// On which side of a pass's level a place is.
+trait Side {
+    ghost test: { ℕ → ℕ → Bool };
+
+    fn holds(level: u8, here: u8) -> bool
+        ensures { result ≡ test level here };
+
+    // Of all places of a block at once.
+    fn holds_in(level: u8, block: &[u8]) -> bool
+        ensures { result ≡ true → span (test level) block.now ≡ length block.now };
 }
 
-// Passes over whole blocks from `from` on that are at the level or above.
-fn blocks_end(levels: &[u8], from: Place, level: u8) -> Place
-    requires { from.0 ≤ length levels.now }
-    ensures { Skipped (leb level) levels.now from.0 result.0 }
-{
-    let mut i = from.0;
-    while FAR <= levels.len() - i {
-        if level_range::lowest_level(&levels[i..i + BLOCK]) < level {
-            return Place(i);
-        }
-        i += BLOCK;
+// What a pass leaves where it is.
+struct Below;
+
+// What a pass turns round.
+struct AtOrAbove;
+
+impl Side for Below {
+    ghost test = { below };
+
+    fn holds(level: u8, here: u8) -> bool {
+        here < level
     }
-    Place(i)
+
+    #[tactic(auto, using(crate::proofs::BlockLaws::all_below))]
+    fn holds_in(level: u8, block: &[u8]) -> bool {
+        level_range::highest_level(block) < level
+    }
 }
 
-// The first place from `from` on that is at the level or above, or the end.
-fn stretch_start(levels: &[u8], from: Place, level: u8) -> Place
-    requires { from.0 ≤ length levels.now }
-    ensures { result.0 ≡ from.0 + span (below level) (drop from.0 levels.now) }
-{
-    let near = blocks_start(levels, from, level);
-    let mut i = near.0;
-    while i < levels.len() {
-        if level <= places::level_of(levels, Place(i)) {
-            return Place(i);
-        }
-        i += 1;
+impl Side for AtOrAbove {
+    ghost test = { leb };
+
+    fn holds(level: u8, here: u8) -> bool {
+        level <= here
     }
-    Place(i)
+
+    #[tactic(auto, using(crate::proofs::BlockLaws::none_below))]
+    fn holds_in(level: u8, block: &[u8]) -> bool {
+        level <= level_range::lowest_level(block)
+    }
 }
 
-// The first place from `from` on that is below the level, or the end.
-fn stretch_end(levels: &[u8], from: Place, level: u8) -> Place
-    requires { from.0 ≤ length levels.now }
-    ensures { result.0 ≡ from.0 + span (leb level) (drop from.0 levels.now) }
+// Passes over whole blocks on one side.
+fn blocks<S: Side>(level: u8, levels: &[u8]) -> usize
+    ensures { Skipped (S.test level) levels.now 0 result }
 {
-    let near = blocks_end(levels, from, level);
-    let mut i = near.0;
-    while i < levels.len() {
-        if places::level_of(levels, Place(i)) < level {
-            return Place(i);
-        }
-        i += 1;
+    if levels.len() < FAR {
+        return 0;
     }
-    Place(i)
+    let count = levels.len() / BLOCK;
+    for i in 0..count {
+        let at = i * BLOCK;
+        if !S::holds_in(level, &levels[at..at + BLOCK]) {
+            return at;
+        }
+    }
+    count * BLOCK
+}
+
+// How many places come first that are on one side.
+fn stretch<S: Side>(level: u8, levels: &[u8]) -> usize
+    ensures { result ≡ span (S.test level) levels.now }
+{
+    let near = blocks::<S>(level, levels);
+    let rest = &levels[near..];
+    let more = rest.iter().position(|here| !S::holds(level, *here));
+    near + more.unwrap_or(rest.len())
 }
 
 // What one pass does: every longest stretch at the level or above is turned round.
+#[tactic(auto, using(crate::proofs::PassLaws::starts, crate::proofs::PassLaws::ends, crate::proofs::PassLaws::goes_on))]
 fn reverse_stretches(level: u8, levels: &[u8], order: &mut [u16])
     requires { length levels.now ≤ length order.old }
     ensures { order.new ≡ pass_by level [] levels.now order.old }
 {
-    let mut i = 0;
-    while i < levels.len() {
-        let start = stretch_start(levels, Place(i), level);
-        let end = stretch_end(levels, start, level);
-        reverse(order, start, end);
-        i = end.0;
+    let mut at = 0;
+    // A `while`: it goes from stretch to stretch, and std's `split` by a test, which does so too, asks every place by itself.
+    while at < levels.len() {
+        let start = at + stretch::<Below>(level, &levels[at..]);
+        let end = start + stretch::<AtOrAbove>(level, &levels[start..]);
+        order[start..end].reverse();
+        at = end;
     }
 }
 
 // L2: one reversal pass, which calls the next with the level one lower.
+#[tactic(auto, using(crate::proofs::PassLaws::none_at_zero, crate::proofs::PassLaws::none_below, crate::proofs::PassLaws::one_then_lower))]
 pub fn reversal_pass(level: u8, lowest: u8, levels: &[u8], order: &mut [u16])
     requires { length levels.now ≤ length order.old }
     ensures { order.new ≡ passes_by level lowest levels.now order.old }
 {
-    if level == 0 {
-        return;
-    }
-    if level < lowest {
+    if level == 0 || level < lowest {
         return;
     }
     reverse_stretches(level, levels, order);
