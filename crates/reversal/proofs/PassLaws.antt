@@ -81,6 +81,8 @@ module _ (level : ℕ) (ls : List ℕ) (i n : ℕ) (h : i < length ls) (begins :
         let there : drop (i + n) ls ≡ drop (span (below level) (drop i ls)) (drop i ls) = sym (drop-drop n i ls) ∙ ap (λ (k : ℕ). drop k (drop i ls)) begins_at in
         omega (arith, begins_at, ends_at ∙ ap (span (leb level)) there)
 
+pub ruleset bounds = (starts, ends, goes_on)
+
 -- what is still to come of a pass from place i on
 abbrev pub pass_from : ℕ → List ℕ → List ℕ → ℕ → List ℕ
 pass_from level ls ps i = pass_by level [] (drop i ls) (drop i ps)
@@ -140,3 +142,5 @@ module _ (lowest : ℕ) (ls ps : List ℕ) where
   one_then_lower (suc level) ps' ps'' n h e f =
       let down : suc level - 1 ≡ level = omega arith in
       f ∙ (λ j. passes_by (down j) lowest ls (e j)) ∙ sym (passes_suc level h)
+
+pub ruleset from_level_on = (none_at_zero, none_below, one_then_lower)

@@ -1,5 +1,5 @@
 -- The passes of L2 as they are made: what stands in an order is moved, and the levels are read by place, as they were before any pass.
-use Rattle.std.specs.Prelude.{ℕ, zero, suc, ◌+◌, ◌≤◌, ◌<◌, ◌≡◌, Bool, List, [], ◌∷◌, ◌++◌, leb, ltb, length, get_or, drop, if◌then◌else◌}
+use Rattle.std.specs.Prelude.{ℕ, zero, suc, ◌+◌, ◌≤◌, ◌≡◌, Bool, List, [], ◌∷◌, ◌++◌, leb, ltb, length, drop, if◌then◌else◌}
 use Rattle.laws.specs.Stretches.{span}
 
 -- what a pass at that level leaves where it is
@@ -24,10 +24,3 @@ unfoldable pub passes_by : ℕ → ℕ → List ℕ → List ℕ → List ℕ
 passes_by zero lowest ls ps = ps
 passes_by (suc level) lowest ls ps =
     if leb lowest (suc level) then passes_by level lowest ls (pass_by (suc level) [] ls ps) else ps
-
--- the places from one up to, not including, another are turned round, and all others are as they were
-pub record Turned (from to : ℕ) (xs ys : List ℕ) : Type 0 where
-  pub long : length ys ≡ length xs
-  pub ahead : (p : ℕ) → p < from → get_or ys p 0 ≡ get_or xs p 0
-  pub inside : (p q : ℕ) → from ≤ p → from ≤ q → suc (p + q) ≡ from + to → get_or ys p 0 ≡ get_or xs q 0
-  pub past : (p : ℕ) → to ≤ p → get_or ys p 0 ≡ get_or xs p 0
