@@ -122,8 +122,8 @@ lines_begun base cs ls ends order r = record {
   few = omega arith;
 }
 
-module _ (base : ℕ) (cs ls ends order₀ order : List ℕ) (from count reversed i : ℕ) (l : Lines base cs ls ends order₀ order from count reversed i) where
-  module _ (h : i < length ends) (to : ℕ) (end : to ≡ get_or ends i 0) where
+module _ {base : ℕ} {cs ls ends order₀ order : List ℕ} {from count reversed i : ℕ} (l : Lines base cs ls ends order₀ order from count reversed i) where
+  module _ (h : i < length ends) {to : ℕ} (end : to ≡ get_or ends i 0) where
     ends_next : drop i ends ≡ to ∷ drop (i + 1) ends
     ends_next = drop_next ends i h ∙ ap (λ (n : ℕ). n ∷ drop (i + 1) ends) (sym end)
 
@@ -168,8 +168,9 @@ module _ (base : ℕ) (cs ls ends order₀ order : List ℕ) (from count reverse
         let n : count + placed.count ≤ to = count_next base' placed.count o.placed in
         (n, omega (arith, l.few), omega (arith, l.few, o.few, o.reversed, o.placed))
 
-    pub lines_next : (placed : Placed) (part' order' : List ℕ) → length cs ≤ length order₀ → Ordered (line_order base cs ls from to) (line_reversed base cs ls from to) (take (length order - count) (drop count order)) placed part' → order' ≡ put_mid count (length order - count) order part' → Lines base cs ls ends order₀ order' to (count + placed.count) (reversed + placed.reversed) (i + 1)
-    lines_next placed part' order' room o e =
+    pub lines_next : {placed : Placed} {part' : List ℕ} → length cs ≤ length order₀ → Ordered (line_order base cs ls from to) (line_reversed base cs ls from to) (take (length order - count) (drop count order)) placed part' → Lines base cs ls ends order₀ (put_mid count (length order - count) order part') to (count + placed.count) (reversed + placed.reversed) (i + 1)
+    lines_next {placed} {part'} room o =
+        let order' : List ℕ = put_mid count (length order - count) order part' in
         let w = next_line in
         let r : ℕ = placed.count in
         let m : length order ≡ length order₀ = l.filled.long in
@@ -180,7 +181,7 @@ module _ (base : ℕ) (cs ls ends order₀ order : List ℕ) (from count reverse
         o.order ∙ ap (λ (x : List ℕ). line ++ drop (length line) x) lent_is ∙ ap (λ (x : List ℕ). line ++ x) (drop-drop (length line) count order)
         ∙ ap (λ (x : ℕ). line ++ drop (count + x) order) (sym n) in
         let order_is : order' ≡ (take count order ++ line) ++ drop (count + r) order =
-        e ∙ ap (λ (x : List ℕ). take count order ++ (part' ++ x)) (Post-is count (length order) order (omega (arith, l.behind)) ∙ drop-length order)
+        ap (λ (x : List ℕ). take count order ++ (part' ++ x)) (Post-is count (length order) order (omega (arith, l.behind)) ∙ drop-length order)
         ∙ ap (λ (x : List ℕ). take count order ++ x) (append-nil part' ∙ part-is)
         ∙ sym (append_assoc (take count order) line (drop (count + r) order)) in
         let front : length (take count order ++ line) ≡ count + r =

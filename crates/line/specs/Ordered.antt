@@ -2,6 +2,8 @@
 -- places.
 use Rattle.std.specs.Prelude.{ℕ, ◌*◌, ◌≤◌, ◌≡◌, List, length}
 use Rattle.laws.specs.Parts.{over}
+use Rattle.rules.specs.Line.{Item, L2, positions_of}
+use Rattle.rules.specs.Reversals.{L2_reverses}
 use Rattle.line.specs.declared.Placed.{Placed}
 
 pub record Ordered (wanted : List ℕ) (turned : ℕ) (entry : List ℕ) (r : Placed) (exit : List ℕ) : Type 0 where
@@ -10,3 +12,7 @@ pub record Ordered (wanted : List ℕ) (turned : ℕ) (entry : List ℕ) (r : Pl
   pub order : exit ≡ over wanted entry
   -- no level is above 255, so the sum over the lines fits its number
   pub few : turned ≤ 255 * length wanted
+
+-- the order of a line with these items
+abbrev pub OrderedItems : List Item → List ℕ → Placed → List ℕ → Type 0
+OrderedItems xs entry r exit = Ordered (positions_of (L2 xs)) (L2_reverses xs) entry r exit

@@ -6,9 +6,9 @@ use Rattle.line.proofs.order_line.Goals as goal
 pub returns-then-to-from-le-SHORT : goal.returns-then-to-from-le-SHORT
 returns-then-to-from-le-SHORT c =
     let args = c.args in
-    ordered_of_parts args.base args.from args.to args.classes.now args.levels.now _ _ _ c.order_with.ensures
+    ordered_of_parts args.base args.from args.to args.classes.now args.levels.now _ _ _ c.order_within.ensures
 
-pub returns : goal.returns
-returns c =
+pub returns-else-to-from-le-SHORT : goal.returns-else-to-from-le-SHORT
+returns-else-to-from-le-SHORT c =
     let args = c.args in
-    ordered_of_parts args.base args.from args.to args.classes.now args.levels.now _ _ _ c.order_with-2.ensures
+    ordered_of_parts args.base args.from args.to args.classes.now args.levels.now _ _ _ c.order_within-else-to-from-le-SHORT.ensures
