@@ -1,3 +1,2 @@
--- What holds of single steps, and what is read off the tables.
-pub mod StepLaws
+-- What is read off the tables.
 pub mod TableLaws

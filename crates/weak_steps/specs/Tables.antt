@@ -3,6 +3,7 @@ use Rattle.std.specs.Prelude.{ℕ, ◌+◌, ◌*◌, min, Bool, not, List, [], �
 use Rattle.std.specs.Int.Bits.{bit_and, bit_or}
 use Rattle.laws.specs.Tables.{table_of}
 use Rattle.rules.specs.Classes.{L, R, AL, last_place, row_width, is_strong}
+use Rattle.weak_steps.specs.declared.Table.{Table}
 use Rattle.rules.specs.Weak.{change_W2, change_W3, change_W6, change_W7, is_side}
 
 -- two entries for a type: 255 where what was stays and 0 where it changes; and what it changes to, 0 where it stays
@@ -50,3 +51,16 @@ changed table wanted strong t =
 -- the strong type for what follows a type
 unfoldable pub carried : List ℕ → ℕ → ℕ → ℕ
 carried table strong t = masked strong (entry table 4 t) (entry table 5 t)
+
+-- ---- the struct: the table of a pass with the strong type that it asks for
+abbrev pub becomes : Table → ℕ → ℕ → ℕ
+becomes table strong t = changed table.entries table.wanted strong t
+
+abbrev pub follows : Table → ℕ → ℕ → ℕ
+follows table strong t = carried table.entries strong t
+
+abbrev pub early_steps : Table
+early_steps = record { wanted = AL; entries = early }
+
+abbrev pub late_steps : Table
+late_steps = record { wanted = L; entries = late }
