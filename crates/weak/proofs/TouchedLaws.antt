@@ -1,20 +1,19 @@
 -- Types that no rule asks for stay as they are, whatever stands before and behind them.
 -- Assumes nothing.
-use Prim.Native.Nat.{ℕ, ◌+◌, ◌-◌, ◌≤◌, ◌<◌}
+use Prim.Native.Nat.{ℕ, zero, suc, ◌≤◌, ◌<◌}
 use native.Mathlib.Omega.{arith}
-use mathlib.Core.Bool.{Bool, true, false}
+use mathlib.Core.Bool.{true, false}
 use mathlib.Core.Path.{◌≡◌, refl, sym, ap, ap₂, ◌∙◌}
 use mathlib.Core.List.{List, [], ◌∷◌, ◌++◌}
 use borrow.Author.Tests.{eqb-true}
 use lib.Dec.{eqb}
-use lib.ListN.{length, get_or, take, drop, take-append-drop, drop_of_length-le}
+use lib.ListN.{length, get_or, take, drop, take-append-drop}
 use Rattle.laws.specs.Choice.{head_or}
 use Rattle.rules.specs.Classes.{AL, EN, ES, ET, CS, NSM}
 use Rattle.laws.specs.Stretches.{after_stretch, stretches}
 use Rattle.rules.specs.Weak.{W1, W2, W3, W4, W5, W6, W7, change_W1, change_W2, strong_W2, change_W3, change_W4, change_W5, change_W6, change_W7, strong_W7, is_terminator, weak}
 use Rattle.laws.specs.Any.{any_of}
 use Rattle.laws.proofs.Any.{none_first}
-use Rattle.laws.proofs.Lists.{drop_next}
 use Rattle.laws.proofs.Passes.{by_test, head_drop}
 use Rattle.weak.specs.Touched.{is_touched}
 
@@ -159,14 +158,10 @@ weak_of_front sor eor ts end {next} {out} none is made =
     ∙ sym (weak_front (drop end ts) none sor eor (take end ts))
     ∙ ap (weak sor eor) (take-append-drop end ts)
 
--- nothing is touched behind the end; and if not there, nor from the place before it on
-pub end_begun : (ts : List ℕ) → any_of is_touched (drop (length ts) ts) ≡ false
+-- none is touched from a place on, where none is at each place
+pub none_touched : (ts : List ℕ) (from : ℕ) → ((k : ℕ) → from ≤ k → k < length ts → is_touched (get_or ts k 0) ≡ false) → any_of is_touched (drop from ts) ≡ false
 unfolding any_of
-end_begun ts = rw (drop_of_length-le ts {i = length ts} (omega arith))
-
-pub end_next : (ts : List ℕ) (end : ℕ) (b : Bool) → 0 < end → end ≤ length ts → b ≡ is_touched (get_or ts (end - 1) 0) → b ≡ false → any_of is_touched (drop end ts) ≡ false → any_of is_touched (drop (end - 1) ts) ≡ false
-unfolding any_of
-end_next ts end b some within is fails none =
-    let at : end - 1 + 1 ≡ end = omega arith in
-    let stays : is_touched (get_or ts (end - 1) 0) ≡ false = sym is ∙ fails in
-    rw (drop_next ts (end - 1) (omega arith), stays, at) none
+none_touched [] zero none = refl
+none_touched [] (suc from) none = refl
+none_touched (t ∷ ts) zero none = rw (none 0 (omega arith) (omega arith)) (none_touched ts 0 (λ k above below. none (suc k) (omega arith) (omega arith)))
+none_touched (t ∷ ts) (suc from) none = none_touched ts from (λ k above below. none (suc k) (omega arith) (omega arith))

@@ -16,7 +16,8 @@ use Rattle.rules.specs.Classes.{L, R, AL, EN, ES, ET, CS, last_place, row_width,
 use Rattle.rules.specs.Weak.{change_W2, strong_W2, change_W3, change_W6, change_W7, is_side, strong_W7}
 use Rattle.laws.proofs.Passes.{by_test}
 use Rattle.laws.proofs.Tables.{Flat, rule_at, at_place}
-use Rattle.weak_steps.specs.Tables.{keeps, gives, alters, rows, early, late, masked, entry, changed, carried}
+use Rattle.weak_steps.specs.declared.Table.{Table}
+use Rattle.weak_steps.specs.Tables.{keeps, gives, alters, rows, early, late, masked, entry, changed, carried, becomes, follows, early_steps, late_steps}
 
 -- ---- the places that are read
 pub changed_at : (table : List ℕ) (wanted strong t row place : ℕ) → row ≡ (if eqb strong wanted then row_width else 0) → place ≡ min t last_place → masked t (get_or table (row + place) 0) (get_or table (2 * row_width + (row + place)) 0) ≡ changed table wanted strong t
@@ -107,17 +108,17 @@ only_strong : OnlyClasses is_strong
 unfolding is_strong
 only_strong t h = rw (no_class t L h (omega arith), no_class t R h (omega arith), no_class t AL h (omega arith))
 
-pub early_change : {table : List ℕ} (strong t : ℕ) {r : ℕ} → table ≡ early → t < 256 → r ≡ changed table AL strong t → r ≡ change_W3 (change_W2 strong t)
+pub early_change : {table : Table} (strong t : ℕ) {r : ℕ} → table ≡ early_steps → t < 256 → r ≡ becomes table strong t → r ≡ change_W3 (change_W2 strong t)
 unfolding early
 early_change {table} strong t {r} is h e =
-    e ∙ ap (λ (xs : List ℕ). changed xs AL strong t) is
+    e ∙ ap (λ (x : Table). becomes x strong t) is
     ∙ reads_change (λ u. change_W3 (change_W2 L u)) (λ u. change_W3 (change_W2 AL u)) is_strong (leaves_W3 L) (leaves_W3 AL) AL strong t h
     ∙ behind_AL strong t
 
-pub early_carry : {table : List ℕ} (strong t : ℕ) {r : ℕ} → table ≡ early → strong < 256 → r ≡ carried table strong t → r ≡ strong_W2 strong t
+pub early_carry : {table : Table} (strong t : ℕ) {r : ℕ} → table ≡ early_steps → strong < 256 → r ≡ follows table strong t → r ≡ strong_W2 strong t
 unfolding early strong_W2
 early_carry {table} strong t {r} is h e =
-    e ∙ ap (λ (xs : List ℕ). carried xs strong t) is
+    e ∙ ap (λ (x : Table). follows x strong t) is
     ∙ reads_strong (λ u. change_W3 (change_W2 L u)) (λ u. change_W3 (change_W2 AL u)) is_strong only_strong strong t h
 
 -- ---- W6, then W7
@@ -133,15 +134,15 @@ only_side : OnlyClasses is_side
 unfolding is_side
 only_side t h = rw (no_class t R h (omega arith), no_class t L h (omega arith))
 
-pub late_change : {table : List ℕ} (strong t : ℕ) {r : ℕ} → table ≡ late → t < 256 → r ≡ changed table L strong t → r ≡ change_W7 strong (change_W6 t)
+pub late_change : {table : Table} (strong t : ℕ) {r : ℕ} → table ≡ late_steps → t < 256 → r ≡ becomes table strong t → r ≡ change_W7 strong (change_W6 t)
 unfolding late
 late_change {table} strong t {r} is h e =
-    e ∙ ap (λ (xs : List ℕ). changed xs L strong t) is
+    e ∙ ap (λ (x : Table). becomes x strong t) is
     ∙ reads_change (λ u. change_W7 R (change_W6 u)) (λ u. change_W7 L (change_W6 u)) is_side (leaves_W7 R) (leaves_W7 L) L strong t h
     ∙ behind_L strong t
 
-pub late_carry : {table : List ℕ} (strong t : ℕ) {r : ℕ} → table ≡ late → strong < 256 → r ≡ carried table strong t → r ≡ strong_W7 strong t
+pub late_carry : {table : Table} (strong t : ℕ) {r : ℕ} → table ≡ late_steps → strong < 256 → r ≡ follows table strong t → r ≡ strong_W7 strong t
 unfolding late strong_W7
 late_carry {table} strong t {r} is h e =
-    e ∙ ap (λ (xs : List ℕ). carried xs strong t) is
+    e ∙ ap (λ (x : Table). follows x strong t) is
     ∙ reads_strong (λ u. change_W7 R (change_W6 u)) (λ u. change_W7 L (change_W6 u)) is_side only_side strong t h

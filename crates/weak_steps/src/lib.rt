@@ -10,7 +10,7 @@ ghost use Rattle.weak_steps.specs.Tables.{early_steps, late_steps, becomes, foll
 use classes::{AL, AN, CS, EN, ES, ET, L, NSM, ON, R, ROW_WIDTH};
 
 // A table has six rows, each with an entry for each class and one for all other numbers.
-pub const ENTRIES: usize = 6 * ROW_WIDTH;
+const ENTRIES: usize = 6 * ROW_WIDTH;
 
 #[tactic(auto, using(laws::proofs::Tests::tests), unfolding(rules::specs::Weak::change_W1))]
 pub fn change_w1(before: u8, t: u8) -> u8
@@ -19,14 +19,14 @@ pub fn change_w1(before: u8, t: u8) -> u8
     if t == NSM { before } else { t }
 }
 
-// A separator changes only between equal types, and then to that type.
+// Most types are no separators: that is asked first.
 #[tactic(auto, using(laws::proofs::Tests::tests), unfolding(rules::specs::Weak::change_W4))]
 pub fn change_w4(before: u8, t: u8, next: u8) -> u8
     ensures { result ≡ change_W4 before t next }
 {
-    match t {
-        CS if before == next && matches!(before, EN | AN) => before,
-        ES if before == next && before == EN => before,
+    match (t, before, next) {
+        (ES | CS, EN, EN) => EN,
+        (CS, AN, AN) => AN,
         _ => t,
     }
 }
@@ -41,6 +41,7 @@ pub fn change_w5(before: u8, next: u8) -> u8
 
 // The table of a pass, and the one strong type that makes a difference to it. Two entries say what becomes of a type: 255
 // where it stays, or else 0 and the new type.
+#[derive(Drop)]
 pub struct Table {
     wanted: u8,
     entries: [u8; ENTRIES],

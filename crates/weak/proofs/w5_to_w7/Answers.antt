@@ -1,49 +1,40 @@
--- `weak::w5_to_w7` meets its contract: it goes from stretch to stretch of ET. The measure is what is left of the length.
--- Assumes nothing.
-use Prim.Native.Nat.{◌+◌, ◌≤◌, ◌<◌}
+-- `weak::w5_to_w7` meets its contract: it goes from stretch to stretch of ET. Assumes nothing.
+use Prim.Native.Nat.{ℕ, ◌<◌}
 use native.Mathlib.Omega.{arith}
-use mathlib.Core.Path.{◌≡◌, sym, ◌∙◌}
-use lib.ListN.{length, drop}
+use mathlib.Core.Bool.{false}
+use mathlib.Core.Path.{◌≡◌, refl}
 use borrow.Author.Tests.{eq-eqb, ne_eqb}
+use lib.ListN.{length, get_or}
 use Rattle.rules.specs.Weak.{is_terminator}
-use Rattle.laws.specs.Stretches.{span}
-use Rattle.laws.proofs.Passes.{span_further, span_found}
-use Rattle.weak.proofs.LateLaws.{late_begun, late_next, late_filled, late_done}
+use Rattle.laws.proofs.Passes.{span_there, get_or_within}
+use Rattle.weak.proofs.LateLaws.{Late, late_begun, late_waits, late_filled, late_next, late_ended}
 use Rattle.weak.proofs.w5_to_w7.Goals as goal
-use Rattle.weak.proofs.w5_to_w7.Goals.{After-terminators_end-end}
-
--- the first of the stretch is known: its end is sought behind it
-ends : (c : After-terminators_end-end) → c.terminators_end-end.result ≡ c.loop-i.i + span is_terminator (drop c.loop-i.i c.loop-i.types)
-unfolding is_terminator
-ends c =
-    c.terminators_end-end.ensures ∙ sym (span_further is_terminator _ _ c.loop-i-test.true (eq-eqb _ _ c.if-t-eq-ET.true))
-
--- it ends behind where it begins, and within the run
-found : (c : After-terminators_end-end) → (c.loop-i.i < c.terminators_end-end.result) × (c.terminators_end-end.result ≤ length c.loop-i.types)
-unfolding is_terminator
-found c =
-    span_found is_terminator _ _ _ c.loop-i-test.true (eq-eqb _ _ c.if-t-eq-ET.true) (ends c)
+use Rattle.weak.proofs.w5_to_w7.Goals.{then-t-ne-ET, then-from-i, else-from-i, else-t-ne-ET}
 
 pub loop-i-init : goal.loop-i-init
 loop-i-init c = late_begun _ (omega arith)
 
-pub slice_bounds-fill-end : goal.slice_bounds-fill-end
-slice_bounds-fill-end c = (found (goal.at.slice_bounds-fill-end c).After-terminators_end-end).1
-
-pub loop-i-smaller-then-t-eq-ET : goal.loop-i-smaller-then-t-eq-ET
-loop-i-smaller-then-t-eq-ET c =
-    omega (arith, found (goal.at.loop-i-smaller-then-t-eq-ET c).After-terminators_end-end, c.loop-i.invariant.long)
-
-pub loop-i-preserved-then-t-eq-ET : goal.loop-i-preserved-then-t-eq-ET
-loop-i-preserved-then-t-eq-ET c =
-    late_filled c.loop-i.invariant c.requires (omega arith) (ends (goal.at.loop-i-preserved-then-t-eq-ET c).After-terminators_end-end) c.element_or-next.ensures
-    c.change_w5.ensures c.change.ensures c.fill.ensures
-
 pub loop-i-preserved : goal.loop-i-preserved
 unfolding is_terminator
 loop-i-preserved c =
-    late_next c.loop-i.invariant c.requires (omega (arith, c.slice_known-in-loop-i-1.given c.loop-i.i)) (omega arith) c.loop-i-test.true (ne_eqb _ _ c.if-t-eq-ET.false)
-    c.change-else-t-eq-ET.ensures c.carry-strong.ensures
+    let now : Late c.args.sides.sor c.args.sides.eor c.args.types.now c.loop-i.types c.loop-i.before c.loop-i.strong c.loop-i.from c.loop-i.i = c.loop-i.invariant in
+    let below : c.loop-i.i < length c.loop-i.types = omega arith in
+    let t : ℕ = get_or c.loop-i.types c.loop-i.i 0 in
+    elim c.if-t-ne-ET.branch [
+      | then-t-ne-ET w ↦
+          let other : is_terminator t ≡ false = ne_eqb _ _ w.if-t-ne-ET.true in
+          let ready : Late c.args.sides.sor c.args.sides.eor c.args.types.now w.if-from-i.types c.loop-i.before c.loop-i.strong c.loop-i.i c.loop-i.i × (get_or w.if-from-i.types c.loop-i.i 0 ≡ t) =
+          elim w.if-from-i.branch [
+            | then-from-i w' ↦
+                rw w'.types-is (late_filled now c.requires (omega arith) (span_there is_terminator _ _ below other) (get_or_within _ _ _ _ below) w'.change_w5-changed.ensures w'.change.ensures w'.fill.ensures)
+            | else-from-i w' ↦
+                let none : c.loop-i.from ≡ c.loop-i.i = omega (arith, now.order) in
+                rw w'.types-is (rw none at now, refl)
+          ] in
+          rw (w.types-is, w.before-is, w.strong-is, w.from-is) (late_next ready.0 c.requires (omega arith) (omega arith) (omega (arith, ready.0.long, now.long)) ready.1 other w.change-own.ensures w.carry-strong.ensures)
+      | else-t-ne-ET w ↦
+          rw (w.types-is, w.before-is, w.strong-is, w.from-is) (late_waits now below (eq-eqb _ _ w.if-t-ne-ET.false))
+    ]
 
 pub returns : goal.returns
-returns c = late_done c.loop-i.invariant c.loop-i-test.false
+returns c = late_ended c.loop-i.invariant c.requires (omega arith) (omega arith) c.change_w5-changed-2.ensures c.change-2.ensures c.fill-2.ensures
