@@ -84,14 +84,10 @@ module _ (level : ℕ) (finals : Finals) (own : finals.own ≡ level) where
       (by_test (eqb t R) (λ b. rw b)
       (λ b. rw b (by_test (eqb t EN) (λ d. rw d) (λ d. rw d))))))
 
--- one choice after the other, from the last test to the first
-pub final_picked : (finals : Finals) (t : ℕ) {number other right r : ℕ} → number ≡ (if eqb t AN then finals.an else finals.own) → other ≡ (if eqb t EN then finals.en else number) → right ≡ (if eqb t R then finals.r else other) → r ≡ (if eqb t L then finals.l else right) → r ≡ final_level finals t
-unfolding final_level
-final_picked finals t a b d e = rw (e, d, b, a)
-
 finals_mapped : (level : ℕ) (finals : Finals) → ((t : ℕ) → final_level finals t ≡ implicit_level level t) → (ts : List ℕ) → map (final_level finals) ts ≡ map (implicit_level level) ts
 finals_mapped level finals same [] = refl
 finals_mapped level finals same (t ∷ ts) = ap₂ (λ (x : ℕ) (xs : List ℕ). x ∷ xs) (same t) (finals_mapped level finals same ts)
 
-pub finals_levels : (level : ℕ) (finals : Finals) (sor eor : ℕ) (ts : List ℕ) {out : List ℕ} → ((t : ℕ) → final_level finals t ≡ implicit_level level t) → out ≡ map (final_level finals) (N2 level (N1 sor eor ts)) → out ≡ map (implicit_level level) (N2 level (N1 sor eor ts))
-finals_levels level finals sor eor ts {out} same is = is ∙ finals_mapped level finals same (N2 level (N1 sor eor ts))
+pub finals_levels : (level : ℕ) (finals : Finals) (sor eor : ℕ) (ts : List ℕ) {out : List ℕ} → finals.own ≡ level → ((t : ℕ) → final_level finals t ≡ implicit_level level t) → out ≡ map (final_level finals) (N2 finals.own (N1 sor eor ts)) → out ≡ map (implicit_level level) (N2 level (N1 sor eor ts))
+finals_levels level finals sor eor ts {out} own same is =
+    is ∙ ap (λ (l : ℕ). map (final_level finals) (N2 l (N1 sor eor ts))) own ∙ finals_mapped level finals same (N2 level (N1 sor eor ts))

@@ -1,21 +1,19 @@
 // Neutral types and implicit levels: rules N1 and N2, I1 and I2 on one run.
-#![tactic(auto)]
+#![tactic(auto, using(laws::proofs::Tests::tests))]
 
-ghost use Rattle.std.specs.Prelude.{◌≡◌, map, ℕ, ◌+◌, ◌<◌, ◌||◌, eqb, length, drop, if◌then◌else◌};
+ghost use Rattle.std.specs.Prelude.{◌≡◌, map, ℕ, ◌+◌, ◌<◌, ◌||◌, eqb, length, if◌then◌else◌};
 ghost use Rattle.laws.specs.Choice.{is_odd};
-ghost use Rattle.rules.specs.Classes.{is_neutral, EN, AN, ON};
+ghost use Rattle.rules.specs.Classes.{EN, AN, ON};
 ghost use Rattle.rules.specs.Neutral.{direction, level_direction, change_N1, change_N2, N1, N2};
 ghost use Rattle.rules.specs.Implicit.{implicit_level};
 ghost use Rattle.neutral.specs.Finals.{final_level};
-ghost use Rattle.laws.specs.Stretches.{span};
+
+use parts::Sides;
 
 fn is_number(t: u8) -> bool
     ensures { result ≡ (eqb t EN || eqb t AN) }
 {
-    if t == classes::EN {
-        return true;
-    }
-    t == classes::AN
+    matches!(t, classes::EN | classes::AN)
 }
 
 fn is_odd(level: u8) -> bool
@@ -24,59 +22,55 @@ fn is_odd(level: u8) -> bool
     level % 2 == 1
 }
 
+#[tactic(auto, using(laws::proofs::Tests::tests), unfolding(rules::specs::Neutral::direction))]
 fn direction(t: u8) -> u8
     ensures { result ≡ direction t }
 {
-    if is_number(t) {
-        return classes::R;
-    }
-    t
+    if is_number(t) { classes::R } else { t }
 }
 
 // The direction of a level, which a boundary of runs takes too.
+#[tactic(auto, using(laws::proofs::Tests::tests), unfolding(rules::specs::Neutral::level_direction))]
 pub fn level_direction(level: u8) -> u8
     ensures { result ≡ level_direction level }
 {
     if is_odd(level) {
-        return classes::R;
+        classes::R
+    } else {
+        classes::L
     }
-    classes::L
 }
 
+#[tactic(auto, using(laws::proofs::Tests::tests), unfolding(rules::specs::Neutral::change_N2))]
 fn change_n2(level: u8, t: u8) -> u8
     ensures { result ≡ change_N2 level t }
 {
     if classes::is_neutral(t) {
-        return level_direction(level);
+        level_direction(level)
+    } else {
+        t
     }
-    t
 }
 
 // What N2 after N1 makes of a stretch of neutrals between two types, whichever neutrals they are.
+#[tactic(auto, using(crate::proofs::NeutralLaws::N_equal, crate::proofs::NeutralLaws::N_apart))]
 fn change_neutral(level: u8, before: u8, next: u8) -> u8
     ensures { result ≡ change_N2 level (change_N1 before next ON) }
 {
     let d = direction(before);
     if d == direction(next) {
-        return change_n2(level, d);
+        change_n2(level, d)
+    } else {
+        level_direction(level)
     }
-    level_direction(level)
 }
 
-// Where a stretch of neutrals ends that holds `from`; `from` itself where there is none.
-fn neutrals_end(types: &[u8], from: usize) -> usize
-    ensures { result ≡ from + span is_neutral (drop from types.now) }
+// Both are known already, so that there is no branch: which type comes next cannot be foreseen. It is a function of its
+// own: with an `if` over two fields in its place the pass takes a fifth longer, with a `match` on the type twice as long.
+fn pick(test: bool, one: u8, other: u8) -> u8
+    ensures { result ≡ (if test then one else other) }
 {
-    let mut i = from;
-    while i < types.len() {
-        let t = types[i];
-        if classes::is_neutral(t) {
-            i += 1;
-        } else {
-            return i;
-        }
-    }
-    i
+    if test { one } else { other }
 }
 
 // The levels that the types of a run come to: one for each type that I1 and I2 raise, and the run's own for any other.
@@ -89,78 +83,75 @@ struct Finals {
     own: u8,
 }
 
-// I1 and I2, once a run.
-fn finals_of(level: u8) -> Finals
-    requires { level + 2 < 256 }
-    ensures { (t : ℕ) → final_level result t ≡ implicit_level level t }
-{
-    if is_odd(level) {
-        return Finals {
-            l: level + 1,
-            r: level,
-            en: level + 1,
-            an: level + 1,
-            own: level,
-        };
-    }
-    Finals {
-        l: level,
-        r: level + 1,
-        en: level + 2,
-        an: level + 2,
-        own: level,
-    }
-}
-
-// Both are known already, so that there is no branch: which type comes next cannot be foreseen.
-fn pick(test: bool, one: u8, other: u8) -> u8
-    ensures { result ≡ (if test then one else other) }
-{
-    if test {
-        return one;
-    }
-    other
-}
-
-fn final_level(finals: Finals, t: u8) -> u8
-    ensures { result ≡ final_level finals t }
-{
-    let number = pick(t == classes::AN, finals.an, finals.own);
-    let other = pick(t == classes::EN, finals.en, number);
-    let right = pick(t == classes::R, finals.r, other);
-    pick(t == classes::L, finals.l, right)
-}
-
-// N1, N2 and I in one pass from the types to the levels. A stretch's end is sought once, from its first place: the pass
-// stays linear.
-fn spread_levels(types: &[u8], level: u8, finals: Finals, sor: u8, eor: u8, levels: &mut [u8])
-    requires { length types.now ≡ length levels.old }
-    ensures { levels.new ≡ map (final_level finals) (N2 level (N1 sor eor types.now)) }
-{
-    let mut before = sor;
-    let mut i = 0;
-    while i < types.len() {
-        let t = types[i];
-        if classes::is_neutral(t) {
-            let end = neutrals_end(types, i + 1);
-            let next = parts::element_or(types, end, eor);
-            parts::fill(
-                &mut levels[i..end],
-                final_level(finals, change_neutral(level, before, next)),
-            );
-            i = end;
+impl Finals {
+    // I1 and I2, once a run.
+    #[tactic(auto, using(crate::proofs::ImplicitLaws::finals_odd, crate::proofs::ImplicitLaws::finals_even))]
+    fn of(level: u8) -> Finals
+        requires { level + 2 < 256 }
+        ensures own { result.own ≡ level }
+        ensures levels { (t : ℕ) → final_level result t ≡ implicit_level level t }
+    {
+        if is_odd(level) {
+            Finals {
+                l: level + 1,
+                r: level,
+                en: level + 1,
+                an: level + 1,
+                own: level,
+            }
         } else {
-            levels[i] = final_level(finals, t);
-            before = t;
-            i += 1;
+            Finals {
+                l: level,
+                r: level + 1,
+                en: level + 2,
+                an: level + 2,
+                own: level,
+            }
         }
     }
+
+    #[tactic(auto, using(laws::proofs::Tests::tests), unfolding(crate::specs::Finals::final_level))]
+    fn of_type(self, t: u8) -> u8
+        ensures { result ≡ final_level self t }
+    {
+        let number = pick(t == classes::AN, self.an, self.own);
+        let other = pick(t == classes::EN, self.en, number);
+        let right = pick(t == classes::R, self.r, other);
+        pick(t == classes::L, self.l, right)
+    }
 }
 
-pub fn neutral_levels(types: &[u8], level: u8, sor: u8, eor: u8, levels: &mut [u8])
+// N1, N2 and I in one pass from the types to the levels: where a stretch of neutrals ends, all of it is filled. W5 to W7 go
+// the same way, but in place and with a strong type carried along: one function for both would take five closures.
+fn spread_levels(types: &[u8], finals: Finals, sides: Sides, levels: &mut [u8])
+    requires { length types.now ≡ length levels.old }
+    ensures { levels.new ≡ map (final_level finals) (N2 finals.own (N1 sides.sor sides.eor types.now)) }
+{
+    let mut before = sides.sor;
+    // from here on nothing is written yet: up to the place at hand, neutrals
+    let mut from = 0;
+    for (i, t) in types.iter().enumerate() {
+        if classes::is_neutral(*t) {
+            continue;
+        }
+        if from < i {
+            let changed = change_neutral(finals.own, before, *t);
+            parts::fill(&mut levels[from..i], finals.of_type(changed));
+        }
+        levels[i] = finals.of_type(*t);
+        before = *t;
+        from = i + 1;
+    }
+    if from < types.len() {
+        let changed = change_neutral(finals.own, before, sides.eor);
+        parts::fill(&mut levels[from..], finals.of_type(changed));
+    }
+}
+
+pub fn neutral_levels(types: &[u8], level: u8, sides: Sides, levels: &mut [u8])
     requires types_len { length types.now ≡ length levels.old }
     requires level_bound { level + 2 < 256 }
-    ensures { levels.new ≡ map (implicit_level level) (N2 level (N1 sor eor types.now)) }
+    ensures { levels.new ≡ map (implicit_level level) (N2 level (N1 sides.sor sides.eor types.now)) }
 {
-    spread_levels(types, level, finals_of(level), sor, eor, levels);
+    spread_levels(types, Finals::of(level), sides, levels);
 }

@@ -5,4 +5,4 @@ use Rattle.neutral.proofs.neutral_levels.Goals as goal
 pub returns : goal.returns
 returns c =
     let a = c.args in
-    finals_levels a.level _ a.sor a.eor a.types.now c.finals_of.ensures c.spread_levels.ensures
+    finals_levels a.level _ a.sides.sor a.sides.eor a.types.now c.of.ensures.own c.of.ensures.levels c.spread_levels.ensures
