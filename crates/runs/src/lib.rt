@@ -6,42 +6,37 @@ ghost use Rattle.rules.specs.Runs.{boundary_type};
 ghost use Rattle.rules.specs.Resolve.{resolve_run, resolve_kept};
 ghost use Rattle.runs.specs.RunEnd.{RunEnd};
 
-// The end of the run that begins at `from`. `i` is the last position known to belong to it.
+use parts::Sides;
+
+// The end of the run that begins at `from`.
 fn run_end(levels: &[u8], from: usize) -> usize
     requires { from < length levels.now }
     ensures { RunEnd levels.now from result }
 {
-    let mut i = from;
-    while i + 1 < levels.len() {
-        if levels[i] != levels[i + 1] {
-            return i + 1;
-        }
-        i += 1;
-    }
-    i + 1
+    let level = levels[from];
+    from + parts::leading(&levels[from..], |l| l == level)
 }
 
 // The type at a boundary of runs: the direction of the higher of the two levels.
+#[tactic(auto, using(crate::proofs::RunLaws::boundary_is))]
 pub fn boundary_type(level: u8, other: u8) -> u8
     ensures { result ≡ boundary_type level other }
 {
-    if level <= other {
-        return neutral::level_direction(other);
-    }
-    neutral::level_direction(level)
+    neutral::level_direction(level.max(other))
 }
 
 // W, N and I on one run.
-pub fn resolve_run(types: &mut [u8], levels: &mut [u8], level: u8, sor: u8, eor: u8)
+pub fn resolve_run(types: &mut [u8], levels: &mut [u8], level: u8, sides: Sides)
     requires types_len { length types.old ≡ length levels.old }
     requires level_bound { level + 2 < 256 }
-    ensures { levels.new ≡ resolve_run level sor eor types.old }
+    ensures { levels.new ≡ resolve_run level sides.sor sides.eor types.old }
 {
-    weak::weak(types, sor, eor);
-    neutral::neutral_levels(types, level, sor, eor, levels);
+    weak::weak(types, sides);
+    neutral::neutral_levels(types, level, sides, levels);
 }
 
-// Each run in turn. `before` is the level of the run before it, at first the base.
+// Each run in turn. `before` is the level of the run before it, at first the base. It is a `while`, since it goes from run
+// to run: each is as long as its level lasts.
 pub fn resolve_kept(types: &mut [u8], levels: &mut [u8], base: u8)
     requires types_len { length types.old ≡ length levels.old }
     requires by_index { (k : ℕ) → get_or levels.old k 0 + 2 < 256 }
@@ -55,7 +50,8 @@ pub fn resolve_kept(types: &mut [u8], levels: &mut [u8], base: u8)
         let next = parts::element_or(levels, end, base);
         let sor = boundary_type(before, level);
         let eor = boundary_type(level, next);
-        resolve_run(&mut types[i..end], &mut levels[i..end], level, sor, eor);
+        let sides = Sides { sor, eor };
+        resolve_run(&mut types[i..end], &mut levels[i..end], level, sides);
         before = level;
         i = end;
     }

@@ -6,4 +6,4 @@ use Rattle.runs.proofs.resolve_run.Goals as goal
 pub returns : goal.returns
 returns c =
     let a = c.args in
-    run_in_turn a.level a.sor a.eor a.types.now c.weak.ensures c.neutral_levels.ensures
+    run_in_turn a.level a.sides.sor a.sides.eor a.types.now c.weak.ensures c.neutral_levels.ensures
