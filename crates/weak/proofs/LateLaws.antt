@@ -126,10 +126,10 @@ module _ {sor eor : ℕ} where
             ∙ now.joined;
       }
 
-  pub late_done : {xs₀ xs : List ℕ} {before strong i : ℕ} → Late sor eor xs₀ xs before strong i i → length xs ≤ i → xs ≡ W7 sor (W6 (W5 sor eor xs₀))
-  late_done {xs₀} {xs} {before} {strong} {i} now past =
+  pub late_done : {xs₀ xs : List ℕ} {before strong from i : ℕ} → Late sor eor xs₀ xs before strong from i → length xs ≤ from → xs ≡ W7 sor (W6 (W5 sor eor xs₀))
+  late_done {xs₀} {xs} {before} {strong} {from} {i} now past =
       sym (append-nil xs)
-      ∙ (rw (take_all i xs past, drop_of_length-le xs past, late_nil eor before strong) at now.joined)
+      ∙ (rw (take_all from xs past, drop_of_length-le xs past, late_nil eor before strong) at now.joined)
       ∙ late_is sor eor xs₀
 
   module _ {xs₀ xs : List ℕ} {before strong from i : ℕ} (now : Late sor eor xs₀ xs before strong from i) where

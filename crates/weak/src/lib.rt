@@ -47,20 +47,23 @@ fn w5_to_w7(table: &Table, types: &mut [u8], sides: Sides)
     let mut from = 0;
     for i in 0..types.len() {
         let t = types[i];
-        if t != classes::ET {
-            let own = table.change(strong, t);
-            if from < i {
-                let changed = weak_steps::change_w5(before, t);
-                parts::fill(&mut types[from..i], table.change(strong, changed));
-            }
-            types[i] = own;
-            strong = table.carry(strong, t);
-            before = t;
-            from = i + 1;
+        if t == classes::ET {
+            continue;
         }
+        let own = table.change(strong, t);
+        if from < i {
+            let changed = weak_steps::change_w5(before, t);
+            parts::fill(&mut types[from..i], table.change(strong, changed));
+        }
+        types[i] = own;
+        strong = table.carry(strong, t);
+        before = t;
+        from = i + 1;
     }
-    let changed = weak_steps::change_w5(before, sides.eor);
-    parts::fill(&mut types[from..], table.change(strong, changed));
+    if from < types.len() {
+        let changed = weak_steps::change_w5(before, sides.eor);
+        parts::fill(&mut types[from..], table.change(strong, changed));
+    }
 }
 
 // AL, and the range from EN to NSM: AN in it is only looked at, but one range is asked sooner than five names.
