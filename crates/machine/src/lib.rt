@@ -1,9 +1,10 @@
-// The machine of rules X1 to X9: a state by value, which takes one class and hands back the next state. Its fields are its
-// own: a machine is made by `new` and changed by `step` alone.
+// The machine of rules X1 to X9: a state by value, which takes one class and hands back the next state. Its fields are
+// its own: a machine is made by `new` and changed by `step` alone.
 #![tactic(auto, using(crate::proofs::MachineLaws::steps))]
 
 ghost use Rattle.std.specs.Prelude.{◌≡◌, ◌≤◌, ◌<◌, ◌+◌, ◌^◌};
-ghost use Rattle.rules.specs.Explicit.{X1, highest_explicit, opening, closing, verdict, after, step, level_here, type_here};
+ghost use Rattle.rules.specs.Explicit.{X1, highest_explicit, opening, closing, verdict, after, step};
+ghost use Rattle.rules.specs.Explicit.{level_here, type_here};
 ghost use Rattle.rules.specs.Explicit as rules;
 ghost use Rattle.machine.specs.Asked.{level_asked, override_asked};
 ghost use Rattle.machine.specs.Fields.{SoundFields};
@@ -14,7 +15,8 @@ const NEXT_TO_HIGHEST: u8 = classes::HIGHEST_EXPLICIT - 1;
 // How many pairs can be remembered: their levels rise from 0 or 1.
 const MOST: usize = classes::HIGHEST_EXPLICIT as usize;
 
-// A level and the override there: what a valid code takes, and what its PDF goes back to.
+// A level and the override there (ON where there is none, as the definitions write it): what a valid code takes, and
+// what its PDF goes back to.
 #[derive(Clone, Copy, PartialEq, Eq)]
 pub struct Pair {
     level: u8,
@@ -220,7 +222,7 @@ impl Machine {
     }
 
     // X6a, X8 and X9: the level of a position of this class.
-    #[tactic(auto, using(crate::proofs::MachineLaws::steps), unfolding(rules::specs::Explicit::level_here, rules::specs::Explicit::X6_level))]
+    #[tactic(auto, unfolding(rules::specs::Explicit::level_here, rules::specs::Explicit::X6_level))]
     pub fn level_here(self, base: u8, class: u8) -> u8
         ensures { result ≡ level_here base (meaning self) class }
     {
@@ -234,7 +236,7 @@ impl Machine {
     }
 
     // X6b and X8: the type of a kept position of this class.
-    #[tactic(auto, using(crate::proofs::MachineLaws::steps), unfolding(rules::specs::Explicit::type_here, rules::specs::Explicit::X6_type))]
+    #[tactic(auto, unfolding(rules::specs::Explicit::type_here, rules::specs::Explicit::X6_type))]
     pub fn type_here(self, class: u8) -> u8
         ensures { result ≡ type_here (meaning self) class }
     {

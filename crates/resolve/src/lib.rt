@@ -9,7 +9,8 @@ ghost use Rattle.rules.specs.Resolve.{resolved_levels};
 mod plain;
 mod scatter;
 
-// Gather, resolve, put back. The level buffer holds the packed levels meanwhile; `types` is room to work in.
+// Gather, resolve, put back. The level buffer holds the packed levels meanwhile; `types` is room to work in. What is
+// asked stands at each of these functions: a struct of what is lent would be taken apart again by every call.
 fn resolve_gathered(classes: &[u8], base: u8, levels: &mut [u8], types: &mut [u8])
     requires { (base ≤ 1) × (length classes.now ≤ length levels.old) × (length classes.now ≤ length types.old) }
     ensures { levels.new ≡ over (resolved_levels base classes.now) levels.old }
@@ -21,7 +22,8 @@ fn resolve_gathered(classes: &[u8], base: u8, levels: &mut [u8], types: &mut [u8
 
 // Works in a room of so many places. Where nothing is removed there is nothing to gather and to put back.
 fn resolve_within<const ROOM: usize>(classes: &[u8], base: u8, levels: &mut [u8])
-    requires { (base ≤ 1) × (length classes.now ≤ length levels.old) × (length classes.now ≤ ROOM) × (ROOM ≤ longest_paragraph) }
+    requires base_bound { (base ≤ 1) × (length classes.now ≤ length levels.old) }
+    requires room { (length classes.now ≤ ROOM) × (ROOM ≤ longest_paragraph) }
     ensures { levels.new ≡ over (resolved_levels base classes.now) levels.old }
 {
     let mut types = [0u8; ROOM];
