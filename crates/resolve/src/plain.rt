@@ -5,6 +5,8 @@ ghost use Rattle.laws.specs.Parts.{over};
 ghost use Rattle.rules.specs.Resolve.{resolved_levels};
 ghost use Rattle.laws.specs.Any.{any_of};
 
+use parts::Sides;
+
 // Beyond both its ends the level is the base too.
 pub(crate) fn resolve_plain(classes: &[u8], base: u8, levels: &mut [u8], types: &mut [u8])
     requires base_bound { (base ≤ 1) × (length classes.now ≤ length levels.old) × (length classes.now ≤ length types.old) }
@@ -13,6 +15,10 @@ pub(crate) fn resolve_plain(classes: &[u8], base: u8, levels: &mut [u8], types: 
 {
     let count = classes.len();
     let side = runs::boundary_type(base, base);
+    let sides = Sides {
+        sor: side,
+        eor: side,
+    };
     parts::copy(classes, types);
-    runs::resolve_run(&mut types[..count], &mut levels[..count], base, side, side);
+    runs::resolve_run(&mut types[..count], &mut levels[..count], base, sides);
 }
