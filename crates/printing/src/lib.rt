@@ -5,10 +5,10 @@ ghost use Rattle.std.specs.Prelude.{◌≤◌, ◌≡◌, length, take};
 ghost use Rattle.io.specs.Counts.{IsPrefixLen};
 ghost use Rattle.rules.specs.Line.{line_order};
 ghost use Rattle.rules.specs.Refusals.{sound, checks_of_line, longest_paragraph};
+ghost use Rattle.refusals.specs.Page.{number_of, place_of};
 ghost use Rattle.writing.specs.Text.{refused_row, Puts};
 ghost use Rattle.printing.specs.Printing.{most_classes, paragraph_rows, paragraph_text, line_text, Prints};
 
-use melvorash::{LevelsAnswer, OrderAnswer};
 use refusals::Refusal;
 
 // More bytes than any line's output has.
@@ -71,15 +71,15 @@ fn put_paragraph(
 {
     let answer = melvorash::resolve_levels(classes, request, fallback, levels);
     match answer {
-        LevelsAnswer::Refused(refusal) => put_refusal(refusal, out),
-        LevelsAnswer::Base(base) => put_resolved(classes, levels, base, order, out),
+        Ok(base) => put_resolved(classes, levels, base, order, out),
+        Err(refusal) => put_refusal(refusal, out),
     }
 }
 
 fn put_refusal(refusal: Refusal, out: &mut [u8]) -> usize
-    ensures { Puts (refused_row refusal.number refusal.place) out.old 0 out.new result }
+    ensures { Puts (refused_row (number_of refusal) (place_of refusal)) out.old 0 out.new result }
 {
-    writing::put_refused_row(refusal.number, refusal.place, out, 0)
+    writing::put_refused_row(refusal.number(), refusal.place(), out, 0)
 }
 
 // The whole paragraph is one line. Order never refuses what Resolve wrote.
@@ -90,11 +90,11 @@ fn put_resolved(classes: &[u8], levels: &[u8], base: u8, order: &mut [u16], out:
     let n = classes.len();
     let answer = melvorash::order_line(classes, levels, base, 0, n, order);
     match answer {
-        OrderAnswer::Refused(fault) => put_refusal(fault, out),
-        OrderAnswer::Ordered(placed) => {
+        Ok(placed) => {
             let count = placed.count;
             put_rows(base, &levels[..n], &order[..count], out)
         }
+        Err(refusal) => put_refusal(refusal, out),
     }
 }
 

@@ -7,10 +7,10 @@ use Rattle.printing.proofs.TextLaws.{resolve_refused, resolve_taken, resolve_tex
 use Rattle.printing.proofs.put_paragraph.Goals as goal
 
 pub put_resolved-requires : goal.put_resolved-requires
-put_resolved-requires c = resolve_taken _ _ _ _ _ _ c.requires.longest_paragraph_in_bounds c.resolve_levels-answer.ensures _ (ap levels_page c.in-Base.is) _ c.requires.longest_paragraph_in_bounds_2
+put_resolved-requires c = resolve_taken _ _ _ _ _ _ c.requires.longest_paragraph_in_bounds c.resolve_levels-answer.ensures _ (ap levels_page c.in-Ok.is) _ c.requires.longest_paragraph_in_bounds_2
 
-pub returns-in-Refused : goal.returns-in-Refused
-returns-in-Refused c = puts_same (resolve_refused _ _ _ _ _ _ c.requires.longest_paragraph_in_bounds c.resolve_levels-answer.ensures _ _ (ap levels_page c.in-Refused.is)) c.put_refusal.ensures
+pub returns-in-Err : goal.returns-in-Err
+returns-in-Err c = puts_same (resolve_refused _ _ _ _ _ _ c.requires.longest_paragraph_in_bounds c.resolve_levels-answer.ensures _ _ (ap levels_page c.in-Err.is)) c.put_refusal.ensures
 
-pub returns-in-Base : goal.returns-in-Base
-returns-in-Base c = puts_same (resolve_text _ _ _ _ _ _ c.requires.longest_paragraph_in_bounds c.resolve_levels-answer.ensures _ (ap levels_page c.in-Base.is)) c.put_resolved.ensures
+pub returns-in-Ok : goal.returns-in-Ok
+returns-in-Ok c = puts_same (resolve_text _ _ _ _ _ _ c.requires.longest_paragraph_in_bounds c.resolve_levels-answer.ensures _ (ap levels_page c.in-Ok.is)) c.put_resolved.ensures

@@ -12,14 +12,14 @@ use Rattle.printing.proofs.put_resolved.Goals as goal
 pub slice_bounds-put_rows-end : goal.slice_bounds-put_rows-end
 slice_bounds-put_rows-end c = sym (length-take-le _ _ (line_sound _ _ _ _ _ _ c.requires).order.fits)
 
-pub slice_bounds-put_rows-end-in-Ordered : goal.slice_bounds-put_rows-end-in-Ordered
-slice_bounds-put_rows-end-in-Ordered c = order_within c.requires c.order_line-answer.ensures (ap order_page c.in-Ordered.is)
+pub slice_bounds-put_rows-end-in-Ok : goal.slice_bounds-put_rows-end-in-Ok
+slice_bounds-put_rows-end-in-Ok c = order_within c.requires c.order_line-answer.ensures (ap order_page c.in-Ok.is)
 
-pub slice_bounds-put_rows-end-in-Ordered-2 : goal.slice_bounds-put_rows-end-in-Ordered-2
-slice_bounds-put_rows-end-in-Ordered-2 c = sym (length-take-le _ _ (order_within c.requires c.order_line-answer.ensures (ap order_page c.in-Ordered.is)))
+pub slice_bounds-put_rows-end-in-Ok-2 : goal.slice_bounds-put_rows-end-in-Ok-2
+slice_bounds-put_rows-end-in-Ok-2 c = sym (length-take-le _ _ (order_within c.requires c.order_line-answer.ensures (ap order_page c.in-Ok.is)))
 
-pub returns-in-Refused : goal.returns-in-Refused
-returns-in-Refused c = absurd (order_not_refused c.requires c.order_line-answer.ensures (ap order_page c.in-Refused.is))
+pub returns-in-Err : goal.returns-in-Err
+returns-in-Err c = absurd (order_not_refused c.requires c.order_line-answer.ensures (ap order_page c.in-Err.is))
 
-pub returns-in-Ordered : goal.returns-in-Ordered
-returns-in-Ordered c = puts_same (ap (paragraph_rows _ _) (order_front c.requires c.order_line-answer.ensures (ap order_page c.in-Ordered.is))) c.put_rows.ensures
+pub returns-in-Ok : goal.returns-in-Ok
+returns-in-Ok c = puts_same (ap (paragraph_rows _ _) (order_front c.requires c.order_line-answer.ensures (ap order_page c.in-Ok.is))) c.put_rows.ensures
