@@ -10,7 +10,7 @@ ghost use Rattle.weak_steps.specs.Tables.{early_steps, late_steps, becomes, foll
 use classes::{AL, AN, CS, EN, ES, ET, L, NSM, ON, R, ROW_WIDTH};
 
 // A table has six rows, each with an entry for each class and one for all other numbers.
-const ENTRIES: usize = 6 * ROW_WIDTH;
+pub const ENTRIES: usize = 6 * ROW_WIDTH;
 
 #[tactic(auto, using(laws::proofs::Tests::tests), unfolding(rules::specs::Weak::change_W1))]
 pub fn change_w1(before: u8, t: u8) -> u8
@@ -43,8 +43,8 @@ pub fn change_w5(before: u8, next: u8) -> u8
 // where it stays, or else 0 and the new type.
 #[derive(Drop)]
 pub struct Table {
-    wanted: u8,
-    entries: [u8; ENTRIES],
+    pub wanted: u8,
+    pub entries: [u8; ENTRIES],
 }
 
 impl Table {
