@@ -10,7 +10,7 @@ use Rattle.laws.proofs.Any.{neither}
 use Rattle.rules.specs.Classes.{LRE, LRO, RLE, RLO, PDF, BN, is_opening, is_removed}
 use Rattle.rules.specs.Explicit.{State, verdict, after, step, kept}
 use Rattle.explicit.proofs.ExplicitLaws.{kept_none, kept_removed, kept_kept}
-use Rattle.laws.proofs.Filling.{Filled, filled_from, filled_more}
+use Rattle.laws.proofs.Filling.{Filled, filled_more}
 
 -- no step of the rules moves at a kept position
 pub kept_stays : (s : State) (c : ℕ) → is_removed c ≡ false → s ≡ step s c
@@ -22,15 +22,6 @@ kept_stays s c stays =
     let embeds = neither (eqb c LRE || eqb c LRO) (eqb c RLE) opens.0 in
     let first = neither (eqb c LRE) (eqb c LRO) embeds.0 in
     rw (embeds.1, first.0, opens.1, first.1, codes.1)
-
--- nothing is written yet
-pub phase_begun : (phase : State → List ℕ → List ℕ) (cs before : List ℕ) {s t : State} → s ≡ t
-    → Filled (phase t cs) before before 0 (phase s cs)
-phase_begun phase cs before e = filled_from before (ap (λ (s : State). phase s cs) e)
-
-pub kept_begun : (phase : State → List ℕ → List ℕ) (cs before : List ℕ) {s t : State} → s ≡ t
-    → Filled (kept cs (phase t cs)) before before 0 (kept cs (phase s cs))
-kept_begun phase cs before e = filled_from before (ap (λ (s : State). kept cs (phase s cs)) e)
 
 -- a phase that gives each position something by the state before it
 module _ (phase : State → List ℕ → List ℕ) (here : State → ℕ → ℕ) (more : (s : State) (c : ℕ) (cs : List ℕ) → phase s (c ∷ cs) ≡ here s c ∷ phase (step s c) cs) where

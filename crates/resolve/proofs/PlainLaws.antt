@@ -1,13 +1,13 @@
 -- A paragraph with nothing removed is one run at its base level: its types are its classes, and each position has its
 -- own place among the kept ones. Assumes nothing.
-use Prim.Native.Nat.{ℕ, zero, suc, ◌≤◌}
+use Prim.Native.Nat.{ℕ, zero, suc}
 use native.Mathlib.Omega.{arith}
 use mathlib.Core.Path.{◌≡◌, refl, sym, ap, ap₂, ◌∙◌}
 use mathlib.Core.Bool.{false}
 use mathlib.Core.List.{List, [], ◌∷◌, ◌++◌, append-nil}
 use borrow.Author.Tests.{eq-eqb}
 use lib.ListN.{length, take, drop, replicate, length-replicate, drop_of_length-le}
-use lib.Seq.{take_all, take_at, length-take-le}
+use lib.Seq.{take_all, take_at}
 use Rattle.rules.specs.Classes.{is_removed, is_paragraph_end}
 use Rattle.rules.specs.Explicit.{X1, X6_level, X6_type, level_here, type_here, explicit_levels, explicit_types, kept, put_back}
 use Rattle.rules.specs.Runs.{one_longer, run_lengths, boundary_type}
@@ -103,7 +103,3 @@ plain_whole base {side} cs ls ts₀ {ts} {out} none s types run =
     let is : out ≡ resolved_levels base cs = run ∙ rw (s, front) (sym (plain_is_run base cs none)) in
     ap (λ (r : List ℕ). r ++ drop (length cs) ls) is
     ∙ ap (λ (n : ℕ). resolved_levels base cs ++ drop n ls) (sym (length_resolved base cs))
-
--- the run's types and levels are as many
-pub fronts_plain : (n : ℕ) (xs ys : List ℕ) → n ≤ length xs → n ≤ length ys → length (take n xs) ≡ length (take n ys)
-fronts_plain n xs ys h g = length-take-le n xs h ∙ sym (length-take-le n ys g)

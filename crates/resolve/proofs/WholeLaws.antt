@@ -100,8 +100,3 @@ module _ {base : ℕ} {cs ls₀ ts₀ ls ts : List ℕ} {n : ℕ} (g : Gathered 
       ∙ ap₂ (λ (xs zs : List ℕ). put_back cs xs ++ zs)
       (take_at ys (drop n ls) n long ∙ y ∙ ap₂ (resolve_kept base) front_levels front_types)
       (past ys long ∙ ap (λ (k : ℕ). drop k ls₀) (sym (length_put_back cs _)))
-
-  pub back_room : (ys : List ℕ) → length ys ≡ length (take n ls) → length cs ≤ length (ys ++ drop n ls)
-  back_room ys l =
-      let long : length ys ≡ n = l ∙ length-take-le n ls within_levels in
-      omega (arith, length-append ys (drop n ls), length-drop n ls, levels_as_long, within_levels, room)

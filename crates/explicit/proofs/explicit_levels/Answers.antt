@@ -5,12 +5,9 @@ use Rattle.rules.specs.Explicit.{level_here, explicit_levels}
 use Rattle.explicit.proofs.ExplicitLaws.{levels_none, levels_more}
 use Rattle.laws.proofs.Tests.{known}
 use Rattle.laws.proofs.Filling.{filled_all}
-use Rattle.explicit.proofs.WalkLaws.{kept_stays, phase_begun, phase_written, phase_ended}
+use Rattle.explicit.proofs.WalkLaws.{kept_stays, phase_written, phase_ended}
 use Rattle.explicit.proofs.explicit_levels.Goals as goal
 use Rattle.explicit.proofs.explicit_levels.Goals.{then-is_removed, else-is_removed}
-
-pub loop-at-init : goal.loop-at-init
-loop-at-init c = (c.new-machine.ensures.counted, phase_begun (explicit_levels _) _ _ c.new-machine.ensures.state)
 
 pub loop-at-preserved : goal.loop-at-preserved
 loop-at-preserved c =

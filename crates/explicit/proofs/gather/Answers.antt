@@ -5,12 +5,9 @@ use Rattle.rules.specs.Explicit.{level_here, type_here, explicit_levels, explici
 use Rattle.explicit.proofs.ExplicitLaws.{levels_more, types_more}
 use Rattle.laws.proofs.Tests.{known}
 use Rattle.laws.proofs.Filling.{filled_count, filled_all}
-use Rattle.explicit.proofs.WalkLaws.{kept_stays, kept_begun, kept_written, kept_passed, kept_ended}
+use Rattle.explicit.proofs.WalkLaws.{kept_stays, kept_written, kept_passed, kept_ended}
 use Rattle.explicit.proofs.gather.Goals as goal
 use Rattle.explicit.proofs.gather.Goals.{then-is_removed, else-is_removed}
-
-pub loop-class-init : goal.loop-class-init
-loop-class-init c = (c.new-machine.ensures.counted, omega arith, kept_begun (explicit_levels _) _ _ c.new-machine.ensures.state, kept_begun explicit_types _ _ c.new-machine.ensures.state)
 
 pub loop-class-preserved : goal.loop-class-preserved
 loop-class-preserved c =

@@ -2,7 +2,7 @@
 -- Assumes nothing.
 use mathlib.Core.Path.{sym}
 use lib.Seq.{length-take-le}
-use Rattle.resolve.proofs.WholeLaws.{within_levels, within_types, fronts_equal, front_low, count_kept, back_room, resolved_whole}
+use Rattle.resolve.proofs.WholeLaws.{within_types, fronts_equal, front_low, count_kept, resolved_whole}
 use Rattle.resolve.proofs.resolve_gathered.Goals as goal
 
 pub slice_bounds-resolve_kept-end : goal.slice_bounds-resolve_kept-end
@@ -13,21 +13,12 @@ pub slice_bounds-resolve_kept-end-2 : goal.slice_bounds-resolve_kept-end-2
 slice_bounds-resolve_kept-end-2 c =
     sym (length-take-le _ _ (within_types c.gather-count.ensures c.requires))
 
-pub slice_bounds-resolve_kept-end-3 : goal.slice_bounds-resolve_kept-end-3
-slice_bounds-resolve_kept-end-3 c =
-    within_levels c.gather-count.ensures c.requires
-
-pub slice_bounds-resolve_kept-end-4 : goal.slice_bounds-resolve_kept-end-4
-slice_bounds-resolve_kept-end-4 c =
-    sym (length-take-le _ _ (within_levels c.gather-count.ensures c.requires))
-
 pub resolve_kept-requires : goal.resolve_kept-requires
 resolve_kept-requires c =
     record { types_len = fronts_equal c.gather-count.ensures c.requires; by_index = front_low c.gather-count.ensures c.requires }
 
-pub put_back-requires : goal.put_back-requires
-put_back-requires c =
-    record { count_value = count_kept c.gather-count.ensures c.requires; classes_in_bounds = back_room c.gather-count.ensures c.requires c.resolve_kept.new.levels c.resolve_kept.auto.levels }
+pub put_back-requires-clause-count_value : goal.put_back-requires-clause-count_value
+put_back-requires-clause-count_value c = count_kept c.gather-count.ensures c.requires
 
 pub returns : goal.returns
 returns c =

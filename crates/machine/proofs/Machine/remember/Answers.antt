@@ -1,6 +1,5 @@
 -- `machine::Machine::remember` meets its contract. There is room, since the remembered levels fall from the present one, which is below 61.
 -- Assumes nothing.
-use native.Mathlib.Omega.{arith}
 use mathlib.Core.Path.{◌∙◌}
 use lib.ListN.{length-set}
 use Rattle.machine.proofs.MachineLaws.{sound_of, room, opened_sound, opened_stands}
@@ -11,9 +10,6 @@ bounds-self-depth c = room c.args.self c.requires.0 c.requires.1
 
 pub bounds-self-depth-2 : goal.bounds-self-depth-2
 bounds-self-depth-2 c = room c.args.self c.requires.0 c.requires.1
-
-pub overflow_add-self : goal.overflow_add-self
-overflow_add-self c = omega (arith, room c.args.self c.requires.0 c.requires.1)
 
 pub invariant_of-self : goal.invariant_of-self
 invariant_of-self c = record { sound = opened_sound c.args.self c.args.new.level c.requires.0 c.requires.1 _ (length-set _ _ _ ∙ (sound_of c.args.self).overrides) }
