@@ -148,6 +148,7 @@ fn spread_levels(types: &[u8], finals: Finals, sides: Sides, levels: &mut [u8])
     }
 }
 
+#[tactic(auto, using(crate::proofs::ImplicitLaws::finals_levels))]
 pub fn neutral_levels(types: &[u8], level: u8, sides: Sides, levels: &mut [u8])
     requires types_len { length types.now ≡ length levels.old }
     requires level_bound { level + 2 < 256 }

@@ -75,6 +75,7 @@ fn is_touched(t: u8) -> bool
 }
 
 // Where the last type that a rule asks for ends: behind it the run stays as it is.
+#[tactic(auto, using(crate::proofs::TouchedLaws::none_touched))]
 fn touched_end(types: &[u8]) -> usize
     ensures upper_bound { result ≤ length types.now }
     ensures types_value { any_of is_touched (drop result types.now) ≡ false }
@@ -86,6 +87,7 @@ fn touched_end(types: &[u8]) -> usize
 }
 
 // The two passes, each lent its table.
+#[tactic(auto, using(crate::proofs::WeakLaws::weak_in_turn))]
 fn both_passes(types: &mut [u8], sides: Sides)
     ensures { types.new ≡ weak sides.sor sides.eor types.old }
 {
@@ -96,6 +98,7 @@ fn both_passes(types: &mut [u8], sides: Sides)
 }
 
 // The rules see of what is behind the last touched type only the first type: to them it is the end type.
+#[tactic(auto, using(crate::proofs::TouchedLaws::weak_of_none, crate::proofs::TouchedLaws::weak_of_front))]
 pub fn weak(types: &mut [u8], sides: Sides)
     ensures { types.new ≡ weak sides.sor sides.eor types.old }
 {

@@ -1,11 +1,7 @@
--- `weak::touched_end` meets its contract: none is touched from its end on. Assumes nothing.
-use Prim.Native.Nat.{◌+◌}
+-- `weak::touched_end` meets its contract: where none is found, none is touched. Assumes nothing.
 use borrow.Author.Rules.{rules}
 use Rattle.weak.proofs.TouchedLaws.{none_touched}
 use Rattle.weak.proofs.touched_end.Goals as goal
-
-pub returns-in-Some-clause-types_value : goal.returns-in-Some-clause-types_value
-returns-in-Some-clause-types_value c = none_touched c.args.types.now (c.in-Some.last + 1) (λ k above below. search rules)
 
 pub returns-in-None-clause-types_value : goal.returns-in-None-clause-types_value
 returns-in-None-clause-types_value c = none_touched c.args.types.now 0 (λ k above below. search rules)
