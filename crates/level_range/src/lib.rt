@@ -1,5 +1,6 @@
-// The highest and the lowest of a line's levels, and the lowest odd one. Each fold looks at every level and stays with bytes,
-// so that many are read at once; std's `max` and `min` over the levels take the first apart, which costs a short line more.
+// The highest and the lowest of a line's levels, and the lowest odd one. Each fold looks at every level and stays with
+// bytes, so that many are read at once; std's `max` and `min` over the levels take the first apart, which costs a short line
+// more.
 #![tactic(auto)]
 
 ghost use Rattle.std.specs.Prelude.{◌≡◌, if◌then◌else◌};

@@ -9,7 +9,7 @@ use mathlib.Core.List.{List, [], ◌∷◌, ◌++◌, reverse, reverse_aux}
 use lib.Dec.{leb, ltb}
 use borrow.Author.Tests.{le-leb, lt-leb, ltb-true, ltb-false}
 use lib.ListN.{length, get_or, take, drop, length-drop, length-reverse, drop_of_length-le, take-append-drop}
-use lib.Seq.{drop-drop, length-take-le, take_all}
+use lib.Seq.{drop-drop, length-take-le}
 use borrow.Rule.Slice.PartMut.{put_mid, same_len_mid}
 use Rattle.std.proofs.lemmas.Slice.{take-put_mid, drop-put_mid}
 use Rattle.laws.proofs.Lists.{drop_next}
@@ -56,30 +56,20 @@ further : (level l : ℕ) (ls : List ℕ) → 0 < span (below level) (l ∷ ls) 
 unfolding span
 further level l ls = further_if (ltb l level) level l ls (span (below level) ls) refl
 
--- what a slice lent from a place on has
-pub rest_is : (i : ℕ) (ls : List ℕ) → take (length ls - i) (drop i ls) ≡ drop i ls
-rest_is i ls = take_all (length ls - i) (drop i ls) (simp length-drop (omega arith))
-
 -- where a stretch begins and ends that is looked for from i on: within the levels, and its end behind i
-module _ (level : ℕ) (ls : List ℕ) (i n : ℕ) (h : i < length ls) (begins : n ≡ span (below level) (take (length ls - i) (drop i ls))) where
-  begins_at : n ≡ span (below level) (drop i ls)
-  begins_at = begins ∙ ap (span (below level)) (rest_is i ls)
+module _ (level : ℕ) (ls : List ℕ) (i s : ℕ) (h : i < length ls) (begins : s ≡ i + span (below level) (drop i ls)) where
+  pub starts : s ≤ length ls
+  starts = (span_end (below level) ls i s (omega arith) begins).1
 
-  pub starts : i + n ≤ length ls
-  starts = (span_end (below level) ls i (i + n) (omega arith) (ap (λ (k : ℕ). i + k) begins_at)).1
+  pub ends : (e : ℕ) → e ≡ s + span (leb level) (drop s ls) → e ≤ length ls
+  ends e is = (span_end (leb level) ls s e starts is).1
 
-  module _ (m : ℕ) (is : m ≡ span (leb level) (take (length ls - (i + n)) (drop (i + n) ls))) where
-    ends_at : m ≡ span (leb level) (drop (i + n) ls)
-    ends_at = is ∙ ap (span (leb level)) (rest_is (i + n) ls)
-
-    pub ends : i + n + m ≤ length ls
-    ends = (span_end (leb level) ls (i + n) (i + n + m) starts (ap (λ (k : ℕ). i + n + k) ends_at)).1
-
-    pub goes_on : i < i + n + m
-    goes_on =
-        let f : 0 < span (below level) (drop i ls) + span (leb level) (drop (span (below level) (drop i ls)) (drop i ls)) = rw (drop_next ls i h) (further level (get_or ls i 0) (drop (i + 1) ls)) in
-        let there : drop (i + n) ls ≡ drop (span (below level) (drop i ls)) (drop i ls) = sym (drop-drop n i ls) ∙ ap (λ (k : ℕ). drop k (drop i ls)) begins_at in
-        omega (arith, begins_at, ends_at ∙ ap (span (leb level)) there)
+  pub goes_on : (e : ℕ) → e ≡ s + span (leb level) (drop s ls) → i < e
+  goes_on e is =
+      let n : ℕ = span (below level) (drop i ls) in
+      let f : 0 < n + span (leb level) (drop n (drop i ls)) = rw (drop_next ls i h) (further level (get_or ls i 0) (drop (i + 1) ls)) in
+      let there : drop s ls ≡ drop n (drop i ls) = ap (λ (k : ℕ). drop k ls) begins ∙ sym (drop-drop n i ls) in
+      omega (arith, begins, is ∙ ap (λ (l : List ℕ). s + span (leb level) l) there)
 
 pub ruleset bounds = (starts, ends, goes_on)
 
@@ -111,10 +101,12 @@ module _ (level : ℕ) (ls order₀ : List ℕ) (room : length ls ≤ length ord
       filled_part _ order₀ order s _ (reverse (take m (drop s order))) _ (s + m) (same_len_mid s m order _ (length-reverse (take m (drop s order))))
       (take-put_mid s m order _ (s + m) (omega arith) (omega arith)) (drop-put_mid s m order _ (s + m) (omega arith) (omega arith) long) (omega arith) (rw parts at f)
 
-  pub next : (order : List ℕ) (i n m : ℕ) → i < length ls → n ≡ span (below level) (take (length ls - i) (drop i ls)) → m ≡ span (leb level) (take (length ls - (i + n)) (drop (i + n) ls)) → Filled (pass_by level [] ls order₀) order₀ order i (pass_from level ls order₀ i) → Filled (pass_by level [] ls order₀) order₀ (put_mid (i + n) (i + n + m - (i + n)) order (reverse (take (i + n + m - (i + n)) (drop (i + n) order)))) (i + n + m) (pass_from level ls order₀ (i + n + m))
-  next order i n m h begins is f =
-      let size : i + n + m - (i + n) ≡ m = omega arith in
-      rw size (turned order (i + n) m (ends level ls i n h begins m is) (is ∙ ap (span (leb level)) (rest_is (i + n) ls)) (at_start order i n (begins ∙ ap (span (below level)) (rest_is i ls)) f))
+  pub next : (order : List ℕ) (i s e : ℕ) → i < length ls → s ≡ i + span (below level) (drop i ls) → e ≡ s + span (leb level) (drop s ls) → Filled (pass_by level [] ls order₀) order₀ order i (pass_from level ls order₀ i) → Filled (pass_by level [] ls order₀) order₀ (put_mid s (e - s) order (reverse (take (e - s) (drop s order)))) e (pass_from level ls order₀ e)
+  next order i s e h begins is f =
+      let size : e - s ≡ span (leb level) (drop s ls) = omega arith in
+      let there : s + (e - s) ≡ e = omega arith in
+      let in_bounds : e ≤ length ls = ends level ls i s h begins e is in
+      rw there at (turned order s (e - s) (omega arith) size (rw (sym begins) at (at_start order i (span (below level) (drop i ls)) refl f)))
 
   pub ended : (order : List ℕ) (i : ℕ) → length ls ≤ i → Filled (pass_by level [] ls order₀) order₀ order i (pass_from level ls order₀ i) → order ≡ pass_by level [] ls order₀
   unfolding pass_by

@@ -2,9 +2,11 @@
 // are read by place, as they were before any pass.
 #![tactic(auto)]
 
-ghost use Rattle.std.specs.Prelude.{◌≡◌, ℕ, ◌≤◌, Bool, true, [], leb, length};
+ghost use Rattle.std.specs.Prelude.{◌≡◌, ℕ, ◌+◌, ◌≤◌, Bool, true, [], leb, length, drop};
 ghost use Rattle.laws.specs.Stretches.{span};
 ghost use Rattle.reversal.specs.Passes.{below, Skipped, pass_by, passes_by};
+
+use places::Place;
 
 // How many places are asked for at once where stretches are long.
 const BLOCK: usize = 16;
@@ -73,14 +75,16 @@ fn blocks<S: Side>(level: u8, levels: &[u8]) -> usize
     count * BLOCK
 }
 
-// How many places come first that are on one side.
-fn stretch<S: Side>(level: u8, levels: &[u8]) -> usize
-    ensures { result ≡ span (S.test level) levels.now }
+// The first place from `from` on that is not on that side, or the end.
+fn stretch<S: Side>(level: u8, levels: &[u8], from: Place) -> Place
+    requires { from.0 ≤ length levels.now }
+    ensures { result.0 ≡ from.0 + span (S.test level) (drop from.0 levels.now) }
 {
-    let near = blocks::<S>(level, levels);
-    let rest = &levels[near..];
+    let part = &levels[from.0..];
+    let near = blocks::<S>(level, part);
+    let rest = &part[near..];
     let more = rest.iter().position(|here| !S::holds(level, *here));
-    near + more.unwrap_or(rest.len())
+    Place(from.0 + near + more.unwrap_or(rest.len()))
 }
 
 // What one pass does: every longest stretch at the level or above is turned round.
@@ -92,10 +96,10 @@ fn reverse_stretches(level: u8, levels: &[u8], order: &mut [u16])
     let mut at = 0;
     // A `while`: it goes from stretch to stretch. std's `split` by a test does so too, and took 4 to 20 times as long.
     while at < levels.len() {
-        let start = at + stretch::<Below>(level, &levels[at..]);
-        let end = start + stretch::<AtOrAbove>(level, &levels[start..]);
-        order[start..end].reverse();
-        at = end;
+        let start = stretch::<Below>(level, levels, Place(at));
+        let end = stretch::<AtOrAbove>(level, levels, start);
+        order[start.0..end.0].reverse();
+        at = end.0;
     }
 }
 

@@ -12,7 +12,7 @@ pub loop-at-preserved : goal.loop-at-preserved
 loop-at-preserved c =
     let args = c.args in
     rw c.reverse.ensures.after
-    (next args.level args.levels.now args.order.now (search rules) _ _ _ _ c.loop-at-test.true c.stretch.ensures c.stretch-in-loop-at.ensures c.loop-at.invariant)
+    (next args.level args.levels.now args.order.now (search rules) _ _ _ _ c.loop-at-test.true c.stretch-start.ensures c.stretch-end.ensures c.loop-at.invariant)
 
 pub returns : goal.returns
 returns c =
