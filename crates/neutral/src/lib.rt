@@ -66,7 +66,7 @@ fn change_neutral(level: u8, before: u8, next: u8) -> u8
 }
 
 // Both are known already, so that there is no branch: which type comes next cannot be foreseen. It is a function of its
-// own: with an `if` over two fields in its place the pass takes a fifth longer, with a `match` on the type twice as long.
+// own: with an `if` over two fields in place of it the pass takes a fifth longer, with a `match` twice as long.
 fn pick(test: bool, one: u8, other: u8) -> u8
     ensures { result ≡ (if test then one else other) }
 {
@@ -121,8 +121,8 @@ impl Finals {
     }
 }
 
-// N1, N2 and I in one pass from the types to the levels: where a stretch of neutrals ends, all of it is filled. W5 to W7 go
-// the same way, but in place and with a strong type carried along: one function for both would take five closures.
+// N1, N2 and I in one pass from the types to the levels: where a stretch of neutrals ends, all of it is filled. W5 to
+// W7 go the same way, but in place and with a strong type carried along: one function for both would be no plainer.
 fn spread_levels(types: &[u8], finals: Finals, sides: Sides, levels: &mut [u8])
     requires { length types.now ≡ length levels.old }
     ensures { levels.new ≡ map (final_level finals) (N2 finals.own (N1 sides.sor sides.eor types.now)) }

@@ -36,8 +36,8 @@ pub fn resolve_run(types: &mut [u8], levels: &mut [u8], level: u8, sides: Sides)
     neutral::neutral_levels(types, level, sides, levels);
 }
 
-// Each run in turn. `before` is the level of the run before it, at first the base. It is a `while`, since it goes from run to
-// run: a `for` over the positions would first have to tell a run's last one.
+// Each run in turn. `before` is the level of the run before it, at first the base. It is a `while`, since it goes from
+// run to run: a `for` over the positions would first have to tell a run's last one.
 pub fn resolve_kept(types: &mut [u8], levels: &mut [u8], base: u8)
     requires types_len { length types.old ≡ length levels.old }
     requires by_index { (k : ℕ) → get_or levels.old k 0 + 2 < 256 }

@@ -19,7 +19,8 @@ fn w1_to_w4(table: &Table, types: &mut [u8], sides: Sides)
     if types.is_empty() {
         return;
     }
-    // of the place last read: its type after W1, after W3, and the strong type for what follows; of the one before: after W3
+    // of the place last read: its type after W1, after W3, and the strong type for what follows; of the one before it:
+    // its type after W3
     let mut own = weak_steps::change_w1(sides.sor, types[0]);
     let mut here = table.change(sides.sor, own);
     let mut strong = table.carry(sides.sor, own);
@@ -50,6 +51,7 @@ fn w5_to_w7(table: &Table, types: &mut [u8], sides: Sides)
         if t == classes::ET {
             continue;
         }
+        // before the fill, which is quicker than behind it
         let own = table.change(strong, t);
         if from < i {
             let changed = weak_steps::change_w5(before, t);

@@ -1,5 +1,5 @@
-// What the rules make of one type: W1, W4 and W5 by their tests. W2 with W3, and W6 with W7, carry a strong type along and
-// go by tables: which class comes next cannot be foreseen, and a wrong guess at a branch costs more than the rule.
+// What the rules make of one type: W1, W4 and W5 by their tests. W2 with W3, and W6 with W7, carry a strong type along
+// and go by tables: which class comes next cannot be foreseen, and a wrong guess at a branch costs more than the rule.
 #![tactic(auto)]
 
 ghost use Rattle.std.specs.Prelude.{◌≡◌, eqb, ◌≤◌, if◌then◌else◌};
@@ -39,8 +39,8 @@ pub fn change_w5(before: u8, next: u8) -> u8
     if before == EN || next == EN { EN } else { ET }
 }
 
-// The table of a pass, and the one strong type that makes a difference to it. Two entries say what becomes of a type: 255
-// where it stays, or else 0 and the new type.
+// The table of a pass, and the one strong type that makes a difference to it. Two entries say what becomes of a type:
+// 255 where it stays, or else 0 and the new type.
 #[derive(Drop)]
 pub struct Table {
     pub wanted: u8,
@@ -76,9 +76,9 @@ impl Table {
     }
 }
 
-// The rows: whether a type stays behind any other strong type, and behind the one that is wanted; what it becomes behind
-// any other, and behind that one; whether the strong type before stays, behind a type; and what it becomes. The entries:
-// L LRE LRO R AL, RLE RLO PDF EN ES, ET AN CS NSM BN, B S WS ON CR, and all other numbers.
+// The rows: whether a type stays behind any other strong type, and behind the one that is wanted; what it becomes
+// behind any other, and behind that one; whether the strong type before stays, behind a type; and what it becomes.
+// The entries: L LRE LRO R AL, RLE RLO PDF EN ES, ET AN CS NSM BN, B S WS ON CR, and all other numbers.
 
 // W2, then W3, and the strong type that W2 carries: AL makes a difference.
 const EARLY: [u8; ENTRIES] = [
