@@ -1,7 +1,7 @@
 // A position in memory order and a place on the display are counted apart, each by its own type: what is known of
 // a position of the text cannot be taken for a place of the order. The functions here are the only ones of a line's
 // crates that index a buffer by either. A position counts from the start of the slice that is lent, the paragraph's or the
-// line's; a place from the line's first, or in a block of places from the block's.
+// line's; a place from the line's first.
 #![tactic(auto)]
 
 ghost use Rattle.std.specs.Prelude.{◌≡◌, ◌<◌, ℕ, length, get_or, set};
