@@ -1,6 +1,7 @@
 // The classes by name, and each question that the rules ask of a class: one function for each test
 // of the definitions. Other code compares names; where it goes by their numbers, in a table or a range, a law says why.
-#![tactic(auto, using(laws::proofs::Tests::tests), unfolding(rules::specs::Classes::is_unknown, rules::specs::Classes::is_paragraph_end, rules::specs::Classes::is_opening, rules::specs::Classes::is_removed, rules::specs::Classes::is_strong, rules::specs::Classes::is_neutral, rules::specs::Classes::is_separator, rules::specs::Classes::is_blank))]
+// They are numbers and no enum: C lends them as bytes, of which any may come, and levels are bytes in the same buffers.
+#![tactic(auto, using(laws::proofs::Tests::tests))]
 
 ghost use Rattle.std.specs.Prelude.{◌≡◌, ◌<◌, min};
 ghost use Rattle.rules.specs.Classes.{is_unknown, is_paragraph_end, is_opening, is_removed, is_strong, is_neutral, is_separator, is_blank, last_place, row_width};
@@ -61,48 +62,56 @@ pub const HIGHEST_EXPLICIT: u8 = 61;
 pub const HIGHEST_RESOLVED: u8 = 62;
 
 // A number above the highest class is no class.
+#[tactic(auto, using(laws::proofs::Tests::tests), unfolding(rules::specs::Classes::is_unknown))]
 pub fn is_unknown(c: u8) -> bool
     ensures { result ≡ is_unknown c }
 {
     HIGHEST < c
 }
 
+#[tactic(auto, using(laws::proofs::Tests::tests), unfolding(rules::specs::Classes::is_paragraph_end))]
 pub fn is_paragraph_end(c: u8) -> bool
     ensures { result ≡ is_paragraph_end c }
 {
     matches!(c, B | CR)
 }
 
+#[tactic(auto, using(laws::proofs::Tests::tests), unfolding(rules::specs::Classes::is_opening))]
 pub fn is_opening(c: u8) -> bool
     ensures { result ≡ is_opening c }
 {
     matches!(c, LRE | LRO | RLE | RLO)
 }
 
+#[tactic(auto, using(laws::proofs::Tests::tests), unfolding(rules::specs::Classes::is_removed))]
 pub fn is_removed(c: u8) -> bool
     ensures { result ≡ is_removed c }
 {
     is_opening(c) || matches!(c, PDF | BN)
 }
 
+#[tactic(auto, using(laws::proofs::Tests::tests), unfolding(rules::specs::Classes::is_strong))]
 pub fn is_strong(c: u8) -> bool
     ensures { result ≡ is_strong c }
 {
     matches!(c, L | R | AL)
 }
 
+#[tactic(auto, using(laws::proofs::Tests::tests), unfolding(rules::specs::Classes::is_neutral))]
 pub fn is_neutral(c: u8) -> bool
     ensures { result ≡ is_neutral c }
 {
     is_paragraph_end(c) || matches!(c, S | WS | ON)
 }
 
+#[tactic(auto, using(laws::proofs::Tests::tests), unfolding(rules::specs::Classes::is_separator))]
 pub fn is_separator(c: u8) -> bool
     ensures { result ≡ is_separator c }
 {
     c == S || is_paragraph_end(c)
 }
 
+#[tactic(auto, using(laws::proofs::Tests::tests), unfolding(rules::specs::Classes::is_blank))]
 pub fn is_blank(c: u8) -> bool
     ensures { result ≡ is_blank c }
 {

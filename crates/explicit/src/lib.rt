@@ -9,7 +9,8 @@ ghost use Rattle.explicit.specs.Promises.{Gathered};
 
 use machine::Machine;
 
-// A level for every position, 255 where it is removed: what the job Explicit writes.
+// A level for every position, 255 where it is removed: what the job Explicit writes. That the base is 0 or 1 stays a clause:
+// it is written to the levels as the byte that it is, and a type for it would be opened at each use.
 pub fn explicit_levels(classes: &[u8], base: u8, levels: &mut [u8])
     requires { (base ≤ 1) × (length classes.now ≤ length levels.old) }
     ensures { levels.new ≡ over (explicit_levels base (X1 base) classes.now) levels.old }

@@ -29,7 +29,8 @@ fn odd_or_highest(level: u8) -> u8
     level.max((1 - level % 2) * 255)
 }
 
-// The lowest odd level, or 255 where there is none: then the highest is even, so below 255, and no pass is made.
+// The lowest odd level, or 255 where there is none: then the highest is even, so below 255, and no pass is made. No Option:
+// the one comparison with the highest level asks both whether there is one and whether a pass is to be made.
 pub fn lowest_odd_level(levels: &[u8]) -> u8
     ensures { result ≡ lowest_odd 255 (at_levels levels.now) }
 {

@@ -5,6 +5,8 @@ ghost use Rattle.melvorash.specs.Answers.{levels_page, Leaves};
 
 use refusals::Refusal;
 
+// The two jobs have one shape. Said once, the work would be a closure over the lent buffer whose contract repeats both promises.
+
 // The levels as they stand after X1 to X9.
 pub fn explicit_levels(
     classes: &[u8],

@@ -23,7 +23,7 @@ pub struct OrderAnswer {
     pub reversed: usize,
 }
 
-// The value where Base finds no level.
+// The value where Base finds no level: C has no Option.
 const NONE_FOUND: usize = 2;
 
 // The paragraph's length, or the count of characters drawn.

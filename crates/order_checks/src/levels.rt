@@ -18,7 +18,8 @@ pub(crate) fn is_bad_level(class: u8, level: u8) -> bool
     HIGHEST_RESOLVED < level
 }
 
-// Whether any lent level is bad. It looks at every one: a loop that could stop at the first would read them one by one.
+// Whether any lent level is bad. It looks at every one: a loop that could stop at the first would read them one by one. The
+// two slices are not zipped, which takes twice as long; so each of the three functions asks for as many levels as classes.
 pub(crate) fn any_bad_level(classes: &[u8], levels: &[u8]) -> bool
     requires { length classes.now ≤ length levels.now }
     ensures { result ≡ any_pair is_bad_level classes.now levels.now }

@@ -5,7 +5,7 @@
 ghost use Rattle.std.specs.Prelude.{◌≡◌, ◌+◌, get_or, drop};
 ghost use Rattle.rules.specs.Paragraph.{is_pair, P2, P3, base_by_text, base_of};
 
-// The request that leaves the base to the text.
+// The request that leaves the base to the text. A request is a byte, as C gives it, and any may come.
 pub const BY_TEXT: u8 = 2;
 
 // Whether a CR stands at a position and a B directly after it. Behind the classes nothing stands.

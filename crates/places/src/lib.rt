@@ -68,5 +68,5 @@ pub fn position_of(order: &[u16], at: Place) -> Position
     requires { at.0 < length order.now }
     ensures { (result.0 ≡ get_or order.now at.0 0) × (result.0 < 65536) }
 {
-    Position(order[at.0] as usize)
+    Position(usize::from(order[at.0]))
 }
