@@ -1,8 +1,7 @@
 -- Laws that the proofs of this crate cite, and the theorem that a loop over lines follows.
 pub mod PartLaws
-pub mod WordLaws
 pub mod NameTheorem
-pub mod AskedLaws
+pub mod NameLaws
 pub mod LineLaws
 pub mod InputLaws
 pub mod Determined

@@ -59,9 +59,9 @@ reading_begun line before {e} at-end = record {
     none_yet = omega arith
 
 module _ {line before out : List ℕ} {end count : ℕ} (now : Reading line before out end count) where
-  pub reading_next : {e class : ℕ} → end < length line → (count ≡ length out → ⊥) → e ≡ part_end space line (end + 1) → class ≡ class_named (take (e - (end + 1)) (drop (end + 1) line)) → Reading line before (set out count class) e (count + 1)
+  pub reading_next : {e class : ℕ} → end < length line → count < length out → e ≡ part_end space line (end + 1) → class ≡ class_named (take (e - (end + 1)) (drop (end + 1) line)) → Reading line before (set out count class) e (count + 1)
   reading_next {e} {class} h more at-end named =
-      let free : count < length before = omega (arith, more, now.room, now.filled.long) in
+      let free : count < length before = omega (arith, more, now.filled.long) in
       let left : length before - count ≡ suc (length before - (count + 1)) = omega arith in
       record {
         within = omega (arith, end_within space line (end + 1) at-end (omega arith));
@@ -74,10 +74,11 @@ module _ {line before out : List ℕ} {end count : ℕ} (now : Reading line befo
   reading_ended : take (length before - count) (classes_behind line end) ≡ [] → ClassesRead line before count out
   reading_ended none = record { count = filled_count now.filled none now.room; classes = filled_all now.filled none now.room }
 
-  pub reading_full : count ≡ length out → ClassesRead line before count out
+  pub reading_full : length out ≤ count → ClassesRead line before (length out) out
   reading_full full =
+      let all : count ≡ length out = omega (arith, now.filled.long, now.room) in
       let left : length before - count ≡ 0 = omega (arith, now.filled.long) in
-      reading_ended (ap (λ (n : ℕ). take n (classes_behind line end)) left)
+      rw all at (reading_ended (ap (λ (n : ℕ). take n (classes_behind line end)) left))
 
   pub reading_done : length line ≤ end → ClassesRead line before count out
   reading_done past = reading_ended (ap (take (length before - count)) (classes_end line end past) ∙ take-nil (length before - count))

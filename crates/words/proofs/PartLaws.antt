@@ -1,7 +1,7 @@
 -- The laws of parts, the same for lines and for words: a part is what stands before its end, and after it come the
 -- parts behind the separator, none where the bytes ended.
 -- Assumes nothing.
-use Prim.Native.Nat.{ℕ, suc, ◌+◌, ◌-◌, ◌≤◌, ◌<◌}
+use Prim.Native.Nat.{ℕ, suc, ◌+◌, ◌-◌, ◌≤◌, ◌<◌, max}
 use native.Mathlib.Omega.{arith}
 use mathlib.Core.Path.{◌≡◌, refl, ap, ◌∙◌}
 use mathlib.Core.Bool.{true, false}
@@ -10,7 +10,7 @@ use lib.Dec.{eqb}
 use lib.ListN.{length, get_or, take, drop, length-take, length-drop, drop_of_length-le}
 use lib.Seq.{drop-drop}
 use borrow.Author.Tests.{eq-eqb, ne_eqb}
-use Rattle.laws.proofs.Lists.{drop_next}
+use Rattle.laws.proofs.Lists.{drop_next, by_order}
 use Rattle.laws.proofs.Passes.{by_test}
 use Rattle.words.specs.Words.{to_first, parts_at, first_part, part_end}
 
@@ -100,3 +100,13 @@ module _ (s : ℕ) (bs : List ℕ) (i : ℕ) where
 
   pub behind_end : length bs ≤ i → parts_behind s (drop i bs) ≡ []
   behind_end h = rw (drop_of_length-le bs h, behind_nil)
+
+-- a search from a place on that went past the last byte
+pub end_searched : (s : ℕ) (bs : List ℕ) (from i : ℕ) → (from ≤ length bs → i ≤ length bs) → length bs ≤ i → part_end s bs i ≡ part_end s bs from → max from (length bs) ≡ part_end s bs from
+end_searched s bs from i ends past on = by_order from (length bs) within beyond
+  where
+    within : from ≤ length bs → max from (length bs) ≡ part_end s bs from
+    within h = let there : max from (length bs) ≡ i = omega (arith, ends h) in there ∙ end_past s bs i past ∙ on
+
+    beyond : length bs < from → max from (length bs) ≡ part_end s bs from
+    beyond h = let there : max from (length bs) ≡ from = omega arith in there ∙ end_past s bs from (omega arith)

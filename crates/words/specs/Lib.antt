@@ -1,4 +1,3 @@
--- The printing program's input, what reading it leaves, and the rows that names are kept in.
+-- The printing program's input, and what reading it leaves.
 pub mod Words
 pub mod Read
-pub mod Rows

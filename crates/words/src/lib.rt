@@ -18,14 +18,12 @@ pub const SPACE: u8 = 32;
 pub fn part_end(bytes: &[u8], separator: u8, from: usize) -> usize
     ensures { result ≡ part_end separator bytes.now from }
 {
-    let mut end = from;
-    while end < bytes.len() {
-        if bytes[end] == separator {
-            return end;
+    for i in from..bytes.len() {
+        if bytes[i] == separator {
+            return i;
         }
-        end += 1;
     }
-    end
+    from.max(bytes.len())
 }
 
 // What a line's first word asks.
@@ -43,15 +41,13 @@ pub fn read_classes(line: &[u8], classes: &mut [u8]) -> usize
     ensures { ClassesRead line.now classes.old result classes.new }
 {
     let mut end = part_end(line, SPACE, 0);
-    let mut count = 0;
-    while end < line.len() {
-        if count == classes.len() {
+    for count in 0..classes.len() {
+        if end >= line.len() {
             return count;
         }
         let start = end + 1;
         end = part_end(line, SPACE, start);
         classes[count] = class_named(&line[start..end]);
-        count += 1;
     }
-    count
+    classes.len()
 }

@@ -1,17 +1,15 @@
--- `words::part_end` meets its contract: the invariant is that the part from here on ends where the part from the start does.
+-- `words::part_end` meets its contract: the part from here on ends where the part from the start does.
 -- Assumes nothing.
-use mathlib.Core.Path.{refl, ◌∙◌}
-use Rattle.words.proofs.PartLaws.{end_here, end_on, end_past}
+use native.Mathlib.Omega.{arith}
+use mathlib.Core.Path.{◌∙◌}
+use Rattle.words.proofs.PartLaws.{end_here, end_on, end_searched}
 use Rattle.words.proofs.part_end.Goals as goal
 
-pub loop-end-init : goal.loop-end-init
-loop-end-init c = refl
+pub returns-then-bytes-i : goal.returns-then-bytes-i
+returns-then-bytes-i c = end_here _ _ _ (omega arith) c.if-bytes-i.true ∙ c.loop-i.invariant
 
-pub returns-then-bytes-end : goal.returns-then-bytes-end
-returns-then-bytes-end c = end_here _ _ _ c.loop-end-test.true c.if-bytes-end.true ∙ c.loop-end.invariant
-
-pub loop-end-preserved : goal.loop-end-preserved
-loop-end-preserved c = end_on _ _ _ c.loop-end-test.true c.if-bytes-end.false ∙ c.loop-end.invariant
+pub loop-i-preserved : goal.loop-i-preserved
+loop-i-preserved c = end_on _ _ _ (omega arith) c.if-bytes-i.false ∙ c.loop-i.invariant
 
 pub returns : goal.returns
-returns c = end_past _ _ _ c.loop-end-test.false ∙ c.loop-end.invariant
+returns c = c.max.ensures ∙ end_searched _ _ _ _ (λ h. omega (arith, h)) (omega arith) c.loop-i.invariant
