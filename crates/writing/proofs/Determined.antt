@@ -1,10 +1,12 @@
 -- Any two outcomes that a promise to put a text allows are equal: one lemma for every text, and each public function's
--- instance, about the text that its `ensures` names. Assumes nothing.
+-- instance, about the text that its `ensures` names. So are two outputs after one such writing. Assumes nothing.
 use Prim.Native.Nat.{ℕ}
 use mathlib.Core.Path.{◌≡◌}
 use mathlib.Core.List.{List}
 use Rattle.laws.proofs.Determined.{determined}
 use Rattle.writing.specs.Text.{number_text, base_row, levels_row, order_row, refused_row, Puts}
+use Rattle.writing.specs.declared.Output.{Output}
+use Rattle.writing.specs.Writes.{Writes}
 
 module _ {before x y : List ℕ} {at r s : ℕ} where
   pub puts_determined : (text : List ℕ) → Puts text before at x r → Puts text before at y s → (x ≡ y) × (r ≡ s)
@@ -24,3 +26,6 @@ module _ {before x y : List ℕ} {at r s : ℕ} where
 
   pub refused_row_determined : (number place : ℕ) → Puts (refused_row number place) before at x r → Puts (refused_row number place) before at y s → (x ≡ y) × (r ≡ s)
   refused_row_determined number place = puts_determined (refused_row number place)
+
+pub writes_determined : {before x y : Output} (text : List ℕ) → Writes text before x → Writes text before y → (x.out.now ≡ y.out.now) × (x.at ≡ y.at)
+writes_determined text p q = puts_determined text p.puts q.puts

@@ -1,6 +1,6 @@
 -- A loop that puts a text for each value of a list: what holds at the loop's head, and begun, one value further, done.
 -- Assumes nothing.
-use Prim.Native.Nat.{ℕ, ◌+◌, ◌≤◌, ◌<◌, min}
+use Prim.Native.Nat.{ℕ, ◌+◌, ◌≤◌, ◌<◌}
 use native.Mathlib.Omega.{arith}
 use mathlib.Core.Path.{◌≡◌, refl, sym, ap, ◌∙◌}
 use mathlib.Core.List.{List, [], ◌∷◌, ◌++◌, append-nil, append_assoc}
@@ -8,8 +8,10 @@ use lib.ListN.{length, get_or, take}
 use lib.Seq.{take_all}
 use Rattle.laws.proofs.Lists.{take_next}
 use Rattle.words.specs.Words.{space}
-use Rattle.writing.specs.Text.{spaced, Puts}
-use Rattle.writing.proofs.TextLaws.{puts_nothing, puts_then, puts_same}
+use Rattle.writing.specs.Text.{spaced}
+use Rattle.writing.specs.declared.Output.{Output}
+use Rattle.writing.specs.Writes.{Writes}
+use Rattle.writing.proofs.TextLaws.{writes_then, writes_same}
 
 -- the texts of the values, one behind the other
 unfoldable pub each : (ℕ → List ℕ) → List ℕ → List ℕ
@@ -46,22 +48,22 @@ pub spaced_two : (text : ℕ → List ℕ) (x y : ℕ) → (space ∷ text x) ++
 unfolding spaced
 spaced_two text x y = ap (λ (r : List ℕ). (space ∷ text x) ++ r) (sym (append-nil (space ∷ text y)))
 
--- the texts of the first i values are put
-pub record EachPut (text : ℕ → List ℕ) (xs before : List ℕ) (at : ℕ) (out : List ℕ) (i end : ℕ) : Type 0 where
+-- the texts of the first i values are written
+pub record EachWritten (text : ℕ → List ℕ) (xs : List ℕ) (before : Output) (i : ℕ) (output : Output) : Type 0 where
   pub within : i ≤ length xs
-  pub put : Puts (each text (take i xs)) before at out end
+  pub wrote : Writes (each text (take i xs)) before output
 
-pub each_begun : (text : ℕ → List ℕ) (xs before : List ℕ) (at end : ℕ) → end ≡ min at (length before) → EachPut text xs before at before 0 end
+pub each_begun : {text : ℕ → List ℕ} {xs : List ℕ} {before output : Output} → Writes [] before output → EachWritten text xs before 0 output
 unfolding each
-each_begun text xs before at end e = record { within = omega arith; put = puts_nothing before at end e }
+each_begun p = record { within = omega arith; wrote = p }
 
-module _ {text : ℕ → List ℕ} {xs before out : List ℕ} {at i end : ℕ} where
-  pub each_next : {after : List ℕ} {next : ℕ} → EachPut text xs before at out i end → i < length xs → Puts (text (get_or xs i 0)) out end after next → EachPut text xs before at after (i + 1) next
+module _ {text : ℕ → List ℕ} {xs : List ℕ} {before output : Output} {i : ℕ} where
+  pub each_next : {after : Output} → EachWritten text xs before i output → i < length xs → Writes (text (get_or xs i 0)) output after → EachWritten text xs before (i + 1) after
   each_next f h p =
       let e : each text (take i xs) ++ text (get_or xs i 0) ≡ each text (take (i + 1) xs) =
       ap (λ (r : List ℕ). each text (take i xs) ++ r) (sym (each_one text (get_or xs i 0)))
       ∙ sym (each_append text (take i xs) (get_or xs i 0 ∷ [])) ∙ ap (each text) (sym (take_next xs i h)) in
-      record { within = omega arith; put = puts_same e (puts_then f.put p) }
+      record { within = omega arith; wrote = writes_same e (writes_then f.wrote p) }
 
-  pub each_done : EachPut text xs before at out i end → length xs ≤ i → Puts (each text xs) before at out end
-  each_done f h = puts_same (ap (each text) (take_all i xs h)) f.put
+  pub each_done : EachWritten text xs before i output → length xs ≤ i → Writes (each text xs) before output
+  each_done f h = writes_same (ap (each text) (take_all i xs h)) f.wrote

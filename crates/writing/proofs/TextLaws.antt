@@ -10,6 +10,8 @@ use lib.Seq.{set_out, sets, sets-eq}
 use Rattle.laws.specs.Parts.{over}
 use Rattle.laws.proofs.Lists.{le_or_lt}
 use Rattle.writing.specs.Text.{put_text, Puts}
+use Rattle.writing.specs.declared.Output.{Output}
+use Rattle.writing.specs.Writes.{Writes}
 
 -- ---- the buffer
 length_put : (at : ℕ) (text buffer : List ℕ) → length (put_text at text buffer) ≡ length buffer
@@ -84,3 +86,15 @@ puts_whole {text} {before} p h =
       p.buffer ∙ put_sets 0 text before ∙ sets-eq text before 0 room ∙ ap (λ (n : ℕ). text ++ drop n before) e,
       omega (arith, p.behind),
     )
+
+-- ---- what a function that writes a text promises
+module _ {s t : List ℕ} {before mid after : Output} where
+  pub writes_then : Writes s before mid → Writes t mid after → Writes (s ++ t) before after
+  writes_then p q = record { puts = puts_then p.puts q.puts; lent = q.lent ∙ p.lent }
+
+-- where something was written, the place is no longer past the end
+pub writes_on : {text : List ℕ} {before output : Output} → Writes text before output → Writes [] output output
+writes_on {text} {before} {output} p = record { puts = puts_nothing output.out.now output.at output.at (omega (arith, p.puts.behind, puts_long p.puts)); lent = refl }
+
+pub writes_same : {s t : List ℕ} {before after : Output} → s ≡ t → Writes s before after → Writes t before after
+writes_same e p = rw e at p

@@ -1,35 +1,29 @@
 // Bytes and words.
-ghost use Rattle.std.specs.Prelude.{◌≡◌, [], ◌∷◌, min};
-ghost use Rattle.writing.specs.Text.{Puts};
+ghost use Rattle.std.specs.Prelude.{[], ◌∷◌};
+ghost use Rattle.writing.specs.Writes.{Writes};
 
-// A place past the buffer's end stands for the end.
-pub(crate) fn place_within(at: usize, end: usize) -> usize
-    ensures { result ≡ min at end }
-{
-    if at < end {
-        return at;
-    }
-    end
-}
+use crate::Output;
 
-pub(crate) fn put_byte(byte: u8, out: &mut [u8], at: usize) -> usize
-    ensures { Puts (byte ∷ []) out.old at out.new result }
-{
-    if at < out.len() {
-        out[at] = byte;
-        return at + 1;
+impl<'a> Output<'a> {
+    // Past the buffer's end there is no place to write to.
+    #[tactic(auto, using(crate::proofs::TextLaws::puts_byte, crate::proofs::TextLaws::puts_past))]
+    pub(crate) fn put_byte(&mut self, byte: u8)
+        ensures { Writes (byte ∷ []) self.old self.new }
+    {
+        if self.at < self.out.len() {
+            self.out[self.at] = byte;
+            self.at += 1;
+        } else {
+            self.at = self.out.len();
+        }
     }
-    out.len()
-}
 
-pub(crate) fn put_text(text: &[u8], out: &mut [u8], at: usize) -> usize
-    ensures { Puts text.now out.old at out.new result }
-{
-    let mut end = place_within(at, out.len());
-    let mut i = 0;
-    while i < text.len() {
-        end = put_byte(text[i], out, end);
-        i += 1;
+    pub(crate) fn put_text(&mut self, text: &[u8])
+        ensures { Writes text.now self.old self.new }
+    {
+        self.at = self.at.min(self.out.len());
+        for byte in text {
+            self.put_byte(*byte);
+        }
     }
-    end
 }
