@@ -1,9 +1,9 @@
--- `printing::put_rows` meets its contract: three texts, each put behind the last.
+-- `printing::put_rows` meets its contract: three texts, each written behind the last.
 -- Assumes nothing.
-use Rattle.writing.proofs.TextLaws.{puts_then}
+use Rattle.writing.proofs.TextLaws.{writes_then}
 use Rattle.printing.specs.Printing.{paragraph_rows}
 use Rattle.printing.proofs.put_rows.Goals as goal
 
 pub returns : goal.returns
 unfolding paragraph_rows
-returns c = puts_then (puts_then c.put_base_row-behind_base.ensures c.put_levels_row-behind_levels.ensures) c.put_order_row.ensures
+returns c = writes_then (writes_then c.put_base_row.ensures c.put_levels_row.ensures) c.put_order_row.ensures
