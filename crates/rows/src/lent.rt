@@ -1,49 +1,78 @@
-// What a lent buffer holds before a call, and whether a call left it so.
-use crate::say;
+// What a row lends its jobs. They are called on it as they are called from C, so that every answer is three numbers,
+// or four for an order.
+use crate::job::Job;
+use melvorash_c::{Answer, OrderAnswer};
 use std::io;
+use words::Asked;
 
+// What lent levels and lent places hold before a call.
 pub(crate) const LEVEL: u8 = 77;
 
 pub(crate) const PLACE: u16 = 7777;
 
-fn all_levels(levels: &[u8]) -> bool {
-    let mut i = 0;
-    while i < levels.len() {
-        if levels[i] != LEVEL {
-            return false;
+// What an order is given where the levels were refused, for it to refuse too.
+const NO_BASE: u8 = 255;
+
+#[derive(Drop)]
+pub(crate) struct Lent<'a> {
+    pub(crate) classes: &'a [u8],
+    pub(crate) levels: &'a mut [u8],
+    pub(crate) order: &'a mut [u16],
+    pub(crate) ends: &'a [u16],
+    pub(crate) asked: Asked,
+}
+
+impl Lent<'_> {
+    // An order goes by the base that was answered before it, or else by the row's own.
+    pub(crate) fn run(&mut self, rt: &impl Print, jobs: &[u8]) -> io::Result<()> {
+        let mut base = Some(self.asked.request);
+        for &letter in jobs {
+            let job = Job::from(letter);
+            let answer = self.called(job, base.unwrap_or(NO_BASE));
+            base = self.tell(rt, job, answer)?;
         }
-        i += 1;
+        Ok(())
     }
-    true
-}
 
-fn all_places(order: &[u16], from: usize) -> bool {
-    let mut i = from;
-    while i < order.len() {
-        if order[i] != PLACE {
-            return false;
-        }
-        i += 1;
+    fn called(&mut self, job: Job, base: u8) -> OrderAnswer {
+        let Asked { request, fallback } = self.asked;
+        let classes = self.classes;
+        let levels = &mut *self.levels;
+        let order = &mut *self.order;
+        let answer = match job {
+            Job::Base => melvorash_c::melvorash_base(classes),
+            Job::Cut => melvorash_c::melvorash_cut(classes),
+            Job::Explicit => { melvorash_c::melvorash_explicit(classes, request, fallback, levels) }
+            Job::Resolve | Job::QuietResolve => {
+                melvorash_c::melvorash_resolve(classes, request, fallback, levels)
+            }
+            Job::Marks | Job::MarksCount | Job::MarksAsLine => {
+                melvorash_c::melvorash_marks(classes, levels, order)
+            }
+            Job::Line | Job::LineEnd => {
+                let from = line_end(self.ends, 0);
+                let to = line_end(self.ends, 1);
+                return melvorash_c::melvorash_order_line(classes, levels, base, from, to, order);
+            }
+            Job::Lines => {
+                return melvorash_c::melvorash_order_lines(classes, levels, base, self.ends, order);
+            }
+        };
+        with_none_reversed(answer)
     }
-    true
 }
 
-fn say_unless(rt: &impl Print, same: bool) -> io::Result<()> {
-    if !same {
-        return say::text(rt, b" not");
+// Of two numbers, a line's beginning and its end.
+fn line_end(ends: &[u16], i: usize) -> usize {
+    ends.get(i).copied().map_or(0, usize::from)
+}
+
+// A job that orders no line has no count: 0 stands for it.
+fn with_none_reversed(answer: Answer) -> OrderAnswer {
+    OrderAnswer {
+        refusal: answer.refusal,
+        place: answer.place,
+        value: answer.value,
+        reversed: 0,
     }
-    Ok(())
-}
-
-pub(crate) fn levels(rt: &impl Print, levels: &[u8]) -> io::Result<()> {
-    say::text(rt, b", levels")?;
-    say_unless(rt, all_levels(levels))?;
-    say::text(rt, b" as they were")
-}
-
-// An order from a place on.
-pub(crate) fn places(rt: &impl Print, name: &[u8], order: &[u16], from: usize) -> io::Result<()> {
-    say::text(rt, name)?;
-    say_unless(rt, all_places(order, from))?;
-    say::text(rt, b" as it was")
 }

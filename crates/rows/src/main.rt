@@ -3,12 +3,13 @@
 // written; the file stdout holds what the library has to answer.
 #![tactic(auto)]
 
+mod job;
 mod lent;
 mod read;
-mod run;
 mod say;
 mod tell;
 
+use lent::Lent;
 use std::io;
 use words::Asked;
 
@@ -22,62 +23,41 @@ fn main(rt: HostRuntime) -> io::Result<()> {
 }
 
 fn rows(rt: &impl Print, input: &[u8]) -> io::Result<()> {
-    let mut from = 0;
-    while from < input.len() {
-        let end = words::part_end(input, words::LINE_FEED, from);
-        line(rt, &input[from..end])?;
-        from = end + 1;
+    for part in input.split_inclusive(|b| *b == words::LINE_FEED) {
+        line(rt, read::unended(part, words::LINE_FEED))?;
     }
     Ok(())
 }
 
 // A line is a remark, a heading or a row.
 fn line(rt: &impl Print, line: &[u8]) -> io::Result<()> {
-    if read::is_remark(line) {
+    if line.starts_with(b"#") {
         return Ok(());
     }
-    say::text(rt, read::field(line, 0))?;
+    rt.write_all(read::field(line, 0))?;
     row(rt, line)?;
-    say::text(rt, b"\n")
+    rt.write_all(b"\n")
 }
 
 // A row's jobs are lent what it says: the classes, the levels, the places of an order, and the line ends.
 fn row(rt: &impl Print, row: &[u8]) -> io::Result<()> {
-    let mut room = [0u8; MOST];
-    let count = read::bytes(read::field(row, 2), &mut room);
-    lend_levels(rt, row, &room[..count])
-}
-
-fn lend_levels(rt: &impl Print, row: &[u8], classes: &[u8]) -> io::Result<()> {
-    let mut room = [0u8; MOST];
-    let levels: &mut [u8] = &mut room;
-    let count = read::bytes(read::field(row, 3), levels);
-    lend_order(rt, row, classes, &mut levels[..count])
-}
-
-fn lend_order(rt: &impl Print, row: &[u8], classes: &[u8], levels: &mut [u8]) -> io::Result<()> {
-    let mut room = [lent::PLACE; MOST];
-    let order: &mut [u16] = &mut room;
-    let places = read::number(read::field(row, 4)) as usize;
-    if places > MOST {
+    let mut classes = [0u8; MOST];
+    let mut levels = [0u8; MOST];
+    let mut order = [lent::PLACE; MOST];
+    let mut ends = [0u16; 8];
+    let places = usize::from(read::number(read::field(row, 4)));
+    let Some(order) = order.get_mut(..places) else {
         return Ok(());
-    }
-    lend_ends(rt, row, classes, levels, &mut order[..places])
-}
-
-fn lend_ends(
-    rt: &impl Print,
-    row: &[u8],
-    classes: &[u8],
-    levels: &mut [u8],
-    order: &mut [u16],
-) -> io::Result<()> {
-    let mut room = [0u16; 8];
-    let count = read::numbers(read::field(row, 6), &mut room);
-    let asked = Asked {
-        request: (read::number(read::field(row, 5)) % 256) as u8,
-        fallback: (read::number(read::field(row, 7)) % 256) as u8,
     };
-    let jobs = read::field(row, 1);
-    run::jobs(rt, jobs, classes, levels, order, asked, &room[..count])
+    let mut lent = Lent {
+        classes: read::bytes(read::field(row, 2), &mut classes),
+        levels: read::bytes(read::field(row, 3), &mut levels),
+        order,
+        ends: read::numbers(read::field(row, 6), &mut ends),
+        asked: Asked {
+            request: (read::number(read::field(row, 5)) % 256) as u8,
+            fallback: (read::number(read::field(row, 7)) % 256) as u8,
+        },
+    };
+    lent.run(rt, read::field(row, 1))
 }

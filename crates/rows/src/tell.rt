@@ -1,148 +1,132 @@
 // Tells what a job answered and what it left in the lent buffers.
-use crate::{lent, say};
+use crate::job::Job;
+use crate::lent::{LEVEL, Lent, PLACE};
+use crate::say;
+use classes::LONGEST;
 use melvorash_c::OrderAnswer;
 use std::io;
 
-// The base that an order is given where the levels were refused, for it to refuse too.
-const NO_BASE: u8 = 255;
-
-// No byte is this, so that none is written as a dash.
-const NO_DASH: u16 = 256;
-
-// Answers the base for an order that follows.
-pub(crate) fn answer(
-    rt: &impl Print,
-    job: u8,
-    answer: OrderAnswer,
-    classes: &[u8],
-    levels: &[u8],
-    order: &[u16],
-) -> io::Result<u8> {
-    if job == b'M' {
-        listed(rt, classes, levels)?;
-    }
-    if answer.refusal > 0 {
-        refused(rt, answer)?;
-        left(rt, job, classes, levels, order)?;
-        return Ok(NO_BASE);
-    }
-    accepted(
-        rt,
-        job,
-        answer.value,
-        answer.reversed,
-        classes,
-        levels,
-        order,
-    )?;
-    Ok((answer.value % 256) as u8)
+// As many of the first as there are.
+fn front<T>(list: &[T], count: usize) -> &[T] {
+    list.get(..count).unwrap_or(list)
 }
 
-fn refused(rt: &impl Print, answer: OrderAnswer) -> io::Result<()> {
-    say::text(rt, b" refused")?;
-    say::number(rt, answer.refusal)?;
-    say::number(rt, answer.place)?;
-    stray(rt, answer.value)?;
-    stray(rt, answer.reversed)
+// Those from a place on, none past the end.
+fn rest<T>(list: &[T], from: usize) -> &[T] {
+    list.get(from..).unwrap_or(&[])
+}
+
+impl Lent<'_> {
+    // Answers the base for an order that follows.
+    pub(crate) fn tell(
+        &self,
+        rt: &impl Print,
+        job: Job,
+        answer: OrderAnswer,
+    ) -> io::Result<Option<u8>> {
+        if job == Job::Marks {
+            self.tell_marks(rt)?;
+        }
+        if answer.refusal > 0 {
+            tell_refusal(rt, answer)?;
+            self.tell_left(rt, job)?;
+            return Ok(None);
+        }
+        self.tell_value(rt, job, answer)?;
+        Ok(Some((answer.value % 256) as u8))
+    }
+
+    // The levels are the marks' flags.
+    fn tell_marks(&self, rt: &impl Print) -> io::Result<()> {
+        print!(rt; " classes")?;
+        say::numbers(rt, self.classes)?;
+        print!(rt; " flags")?;
+        say::numbers(rt, self.levels)
+    }
+
+    // What a refused job left: an empty part, or the buffer as it was.
+    fn tell_left(&self, rt: &impl Print, job: Job) -> io::Result<()> {
+        match job {
+            Job::Cut => self.tell_part(rt),
+            Job::Explicit | Job::Resolve => {
+                let not = say::not_unless_all(self.levels, LEVEL);
+                print!(rt; ", levels{not} as they were")
+            }
+            Job::Line | Job::Lines => {
+                let not = say::not_unless_all(self.order, PLACE);
+                print!(rt; ", order{not} as it was")
+            }
+            Job::Marks | Job::MarksCount => self.tell_rest(rt, 0),
+            Job::Base | Job::QuietResolve | Job::LineEnd | Job::MarksAsLine => Ok(()),
+        }
+    }
+
+    fn tell_value(&self, rt: &impl Print, job: Job, answer: OrderAnswer) -> io::Result<()> {
+        let value = answer.value;
+        match job {
+            Job::Base => print!(rt; " base {value}"),
+            Job::Cut => {
+                print!(rt; " length {value}")?;
+                self.tell_part(rt)
+            }
+            Job::Explicit | Job::Resolve => {
+                print!(rt; " base {value} levels")?;
+                say::levels(rt, front(self.levels, self.classes.len()))
+            }
+            Job::QuietResolve => Ok(()),
+            Job::Marks => {
+                tell_order(rt, front(self.order, value))?;
+                self.tell_rest(rt, value)
+            }
+            Job::MarksCount => {
+                print!(rt; " drawn {value}")?;
+                self.tell_rest(rt, value)
+            }
+            Job::LineEnd => {
+                print!(rt; " ordered {value}, the last place and the one after:")?;
+                tell_order(rt, front(rest(self.order, LONGEST - 1), 2))?;
+                tell_reversed(rt, answer)
+            }
+            Job::Line | Job::Lines | Job::MarksAsLine => {
+                tell_order(rt, front(self.order, value))?;
+                tell_reversed(rt, answer)
+            }
+        }
+    }
+
+    // How long the part that Cut gives is, and its first four classes.
+    fn tell_part(&self, rt: &impl Print) -> io::Result<()> {
+        let part = melvorash::cut_part(self.classes);
+        print!(rt; ", part {}:", part.len())?;
+        say::numbers(rt, front(part, 4))
+    }
+
+    // The places behind those that were written.
+    fn tell_rest(&self, rt: &impl Print, written: usize) -> io::Result<()> {
+        let not = say::not_unless_all(rest(self.order, written), PLACE);
+        print!(rt; ", the rest{not} as it was")
+    }
+}
+
+fn tell_refusal(rt: &impl Print, answer: OrderAnswer) -> io::Result<()> {
+    print!(rt; " refused {} {}", answer.refusal, answer.place)?;
+    tell_stray(rt, answer.value)?;
+    tell_stray(rt, answer.reversed)
 }
 
 // A refusal's value and count are 0; any other is shown.
-fn stray(rt: &impl Print, number: usize) -> io::Result<()> {
+fn tell_stray(rt: &impl Print, number: usize) -> io::Result<()> {
     if number > 0 {
-        return say::named(rt, b", with", number);
+        return print!(rt; ", with {number}");
     }
     Ok(())
 }
 
-fn listed(rt: &impl Print, classes: &[u8], flags: &[u8]) -> io::Result<()> {
-    say::text(rt, b" classes")?;
-    say::bytes(rt, classes, classes.len(), NO_DASH)?;
-    say::text(rt, b" flags")?;
-    say::bytes(rt, flags, flags.len(), NO_DASH)
+fn tell_order(rt: &impl Print, places: &[u16]) -> io::Result<()> {
+    print!(rt; " order")?;
+    say::numbers(rt, places)
 }
 
-// What a refused job left: an empty part, or the buffer as it was.
-fn left(rt: &impl Print, job: u8, classes: &[u8], levels: &[u8], order: &[u16]) -> io::Result<()> {
-    if job == b'C' {
-        return part(rt, melvorash::cut_part(classes));
-    }
-    if job == b'E' {
-        return lent::levels(rt, levels);
-    }
-    if job == b'R' {
-        return lent::levels(rt, levels);
-    }
-    if job == b'O' {
-        return lent::places(rt, b", order", order, 0);
-    }
-    if job == b'A' {
-        return lent::places(rt, b", order", order, 0);
-    }
-    if job == b'M' {
-        return lent::places(rt, b", the rest", order, 0);
-    }
-    if job == b'D' {
-        return lent::places(rt, b", the rest", order, 0);
-    }
-    Ok(())
-}
-
-fn accepted(
-    rt: &impl Print,
-    job: u8,
-    value: usize,
-    reversed: usize,
-    classes: &[u8],
-    levels: &[u8],
-    order: &[u16],
-) -> io::Result<()> {
-    if job == b'B' {
-        return say::named(rt, b" base", value);
-    }
-    if job == b'C' {
-        say::named(rt, b" length", value)?;
-        return part(rt, melvorash::cut_part(classes));
-    }
-    if job == b'E' {
-        return based(rt, value, levels, classes.len());
-    }
-    if job == b'R' {
-        return based(rt, value, levels, classes.len());
-    }
-    if job == b'Q' {
-        return Ok(());
-    }
-    if job == b'M' {
-        say::order(rt, order, 0, value)?;
-        return lent::places(rt, b", the rest", order, value);
-    }
-    if job == b'D' {
-        say::named(rt, b" drawn", value)?;
-        return lent::places(rt, b", the rest", order, value);
-    }
-    placed(rt, job, value, order)?;
-    say::named(rt, b", reversed", reversed)
-}
-
-fn based(rt: &impl Print, base: usize, levels: &[u8], n: usize) -> io::Result<()> {
-    say::named(rt, b" base", base)?;
-    say::text(rt, b" levels")?;
-    say::bytes(rt, levels, n, classes::REMOVED_LEVEL as u16)
-}
-
-// How long the part that Cut gives is, and its first four classes.
-fn part(rt: &impl Print, part: &[u8]) -> io::Result<()> {
-    say::named(rt, b", part", part.len())?;
-    say::text(rt, b":")?;
-    say::bytes(rt, part, 4, NO_DASH)
-}
-
-// The positions of an order; for T how many there are, the last place and the one after.
-fn placed(rt: &impl Print, job: u8, count: usize, order: &[u16]) -> io::Result<()> {
-    if job == b'T' {
-        say::named(rt, b" ordered", count)?;
-        say::text(rt, b", the last place and the one after:")?;
-        return say::order(rt, order, classes::LONGEST - 1, classes::LONGEST + 1);
-    }
-    say::order(rt, order, 0, count)
+fn tell_reversed(rt: &impl Print, answer: OrderAnswer) -> io::Result<()> {
+    print!(rt; ", reversed {}", answer.reversed)
 }
