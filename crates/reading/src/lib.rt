@@ -17,6 +17,8 @@ pub fn read_start<R: Read>(input: &mut R, buffer: &mut [u8]) -> io::Result<usize
     ensures start { IfOk result (λ n. IfSome (R.remaining input.old) (λ bytes. take n buffer.new ≡ take (length buffer.old) bytes)) }
     ensures rest { OnOk result (IfSome (R.remaining input.old) (λ bytes. R.remaining input.new ≡ Some (drop (length buffer.old) bytes))) }
 {
+    // The place is where reads have come, not a count of turns. A rest that shrinks in its place was tried, but then no
+    // invariant can name what was read, and `start` is not proved.
     let mut count = 0;
     while count < buffer.len() {
         let more = input.read(&mut buffer[count..])?;

@@ -1,6 +1,7 @@
 -- `reading::read_start` meets its contract: one read behind another. Assumes nothing.
 use Rattle.std.proofs.Common.{◌-◌, length, arith}
-use Rattle.reading.proofs.StartLaws.{take_read, then_read}
+use Rattle.reading.proofs.StartLaws.{take_read}
+use Rattle.std.proofs.KnownBytes.{Consumes-trans}
 use borrow.Rule.Slice.PartMut.{same_len_mid}
 use Rattle.reading.proofs.read_start.Goals as goal
 
@@ -14,5 +15,5 @@ loop-count-preserved g c =
     let kept = same_len_mid c.loop-count.count (length xs - c.loop-count.count) xs c.read.new.buf same in
     record {
       within = omega (arith, same, kept, more.bound.0);
-      so_far = rw e (then_read _ _ _ _ _ c.loop-count.invariant.so_far more.bytes.0);
+      so_far = rw e (Consumes-trans _ _ _ _ _ c.loop-count.invariant.so_far more.bytes.0);
     }
