@@ -1,2 +1,1 @@
-mod LineLaws
 mod OutputLaws

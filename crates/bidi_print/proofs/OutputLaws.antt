@@ -3,17 +3,11 @@ use Rattle.std.proofs.Common.{◌≡◌, ℕ, ◌+◌, ◌-◌, ◌<◌, ◌≤�
 use Rattle.std.specs.declared.result.Result.{Result}
 use Rattle.std.proofs.lemmas.List.{append-nil, append_assoc}
 use Rattle.std.proofs.Math.Seq.{take-append_seam}
+use Rattle.std.proofs.KnownBytes.{Appends-trans}
 use Rattle.std.specs.Io.KnownBytes.{Appends}
 use Rattle.words.specs.Words.{line_feed, part_end, lines_of}
 use Rattle.printing.specs.Printing.{line_text, text_of_all, most_input, output_of, most_output, printed, Prints}
 use Rattle.printing.proofs.OutputTheorems.{output_next, output_ended}
-
--- one text behind another
-pub then_written : (first second third : Option (List ℕ)) (xs ys : List ℕ) → Appends first second xs → Appends second third ys → Appends first third (xs ++ ys)
-then_written None second third xs ys a b = tt
-then_written (Some bytes) None third xs ys a b = elim a [ ]
-then_written (Some bytes) (Some longer) None xs ys a b = elim b [ ]
-then_written (Some bytes) (Some longer) (Some all) xs ys a b = b ∙ ap (λ (t : List ℕ). t ++ ys) a ∙ append_assoc bytes xs ys
 
 -- what stands at the front of the buffer is the line's output
 pub front_is : (line before after : List ℕ) (count : ℕ) → length before ≡ most_output → Prints line before count after → take count after ≡ line_text line
@@ -35,7 +29,7 @@ pub printed_line : (first now next : Option (List ℕ)) (input line : List ℕ) 
 printed_line first now next input line from end so_far within e more is =
     record {
       text = so_far.text ++ line;
-      written = then_written first now next so_far.text line so_far.written more;
+      written = Appends-trans first now next so_far.text line so_far.written more;
       whole = so_far.whole ∙ ap (λ (t : List ℕ). so_far.text ++ t) (output_next input from end within e) ∙ sym (append_assoc so_far.text _ _) ∙ ap (λ (t : List ℕ). (so_far.text ++ t) ++ text_of_all (lines_of (drop (end + 1) input))) (sym is);
     }
 

@@ -26,10 +26,12 @@ fn print_input<R: Read, W: Write>(input: &mut R, output: &mut W) -> io::Result<(
 }
 
 // Each line in turn, as long as its output is taken. A line feed at the very end begins no further line.
+#[tactic(auto, using(words::proofs::PartLaws::end_within))]
 fn print_lines<W: Write>(input: &[u8], output: &mut W) -> io::Result<()>
     ensures { OnOk result (Appends (W.contents output.old) (W.contents output.new) (text_of_all (lines_of input.now))) }
 {
     let mut out = [0u8; printing::MOST_OUTPUT];
+    // No `for` over std's `split_inclusive`: tried, but in a generic function no invariant of that iterator is admitted.
     let mut from = 0;
     while from < input.len() {
         let end = words::part_end(input, words::LINE_FEED, from);

@@ -1,20 +1,7 @@
 -- `bidi_print::print_lines` meets its contract: each line's output stands behind that of the lines before it. Assumes nothing.
 use Rattle.std.proofs.Common.{◌∙◌}
-use Rattle.bidi_print.proofs.LineLaws.{line_within, less_left}
 use Rattle.bidi_print.proofs.OutputLaws.{front_is, printed_line, printed_all}
 use Rattle.bidi_print.proofs.print_lines.Goals as goal
-
-pub slice_bounds-print_line-count : goal.slice_bounds-print_line-count
-slice_bounds-print_line-count g c = (line_within _ c.loop-from-test.true c.part_end-end.ensures).0
-
-pub slice_bounds-print_line-start : goal.slice_bounds-print_line-start
-slice_bounds-print_line-start g c = (line_within _ c.loop-from-test.true c.part_end-end.ensures).0
-
-pub slice_bounds-print_line-end : goal.slice_bounds-print_line-end
-slice_bounds-print_line-end g c = (line_within _ c.loop-from-test.true c.part_end-end.ensures).1
-
-pub loop-from-smaller : goal.loop-from-smaller
-loop-from-smaller g c = less_left _ c.loop-from-test.true c.part_end-end.ensures
 
 pub loop-from-preserved : goal.loop-from-preserved
 loop-from-preserved g c =
