@@ -10,7 +10,7 @@ pub(crate) const LEVEL: u8 = 77;
 
 pub(crate) const PLACE: u16 = 7777;
 
-// What an order is given where the levels were refused, for it to refuse too.
+// What an order is given where the job before it was refused, for it to refuse too: its base is a number, as C has it.
 const NO_BASE: u8 = 255;
 
 #[derive(Drop)]

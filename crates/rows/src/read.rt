@@ -53,6 +53,7 @@ fn written<'a, T: Copy, I: Iterator<Item = (T, usize)>>(values: I, room: &'a mut
     for (value, times) in values {
         let left = &mut room[count..];
         let more = times.min(left.len());
+        // std's `fill` clones, and of any T it is not known that a clone cannot fail.
         for place in &mut left[..more] {
             *place = value;
         }
