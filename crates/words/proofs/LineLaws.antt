@@ -5,7 +5,7 @@ use native.Mathlib.Omega.{arith}
 use mathlib.Core.Path.{◌≡◌, sym, ap, ◌∙◌}
 use mathlib.Core.List.{List, [], ◌∷◌, map}
 use lib.ListN.{length, take, drop, set}
-use lib.Seq.{take-nil}
+use lib.Seq.{take-nil, length-take-le}
 use Rattle.laws.proofs.Filling.{Filled, filled_from, filled_more, filled_all, filled_count}
 use Rattle.words.specs.Words.{space, parts_at, first_part, later_parts, part_end, class_named, request_named, fallback_named, request_of, fallback_of, classes_of}
 use Rattle.words.specs.Read.{ClassesRead}
@@ -26,6 +26,11 @@ pub fallback_known : (line : List ℕ) {e r : ℕ} → e ≡ part_end space line
 unfolding fallback_of
 fallback_known line at-end named = first_word line fallback_named at-end named
 
+pub first_end : (s : ℕ) (line : List ℕ) {e : ℕ} → e ≡ part_end s line 0 → e ≡ length (take e line)
+first_end s line at-end = sym (length-take-le _ _ (end_within s line 0 at-end (omega arith)).1)
+
+pub ruleset first_word_laws = (first_end, request_known, fallback_known)
+
 -- the classes that the words behind a place name
 abbrev classes_behind : List ℕ → ℕ → List ℕ
 classes_behind line end = map class_named (parts_behind space (drop end line))
@@ -41,6 +46,10 @@ classes_next line end e class h at-end named =
 
 classes_end : (line : List ℕ) (end : ℕ) → length line ≤ end → classes_behind line end ≡ []
 classes_end line end past = ap (map class_named) (behind_end space line end past)
+
+-- a word lies within the line
+pub word_within : (s : ℕ) (line : List ℕ) (end : ℕ) {e : ℕ} → end < length line → e ≡ part_end s line (end + 1) → (end + 1 ≤ e) × (e ≤ length line)
+word_within s line end h at-end = end_within s line (end + 1) at-end (omega arith)
 
 -- what is written, then the classes behind `end`, as many as there is room for, are all that there is room for
 pub record Reading (line before out : List ℕ) (end count : ℕ) : Type 0 where
@@ -82,3 +91,5 @@ module _ {line before out : List ℕ} {end count : ℕ} (now : Reading line befo
 
   pub reading_done : length line ≤ end → ClassesRead line before count out
   reading_done past = reading_ended (ap (take (length before - count)) (classes_end line end past) ∙ take-nil (length before - count))
+
+pub ruleset reading_laws = (word_within, reading_full, reading_done)

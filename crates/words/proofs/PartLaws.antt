@@ -64,17 +64,17 @@ module _ (s : ℕ) where
 
 -- ---- the end of a part, as a search finds it
 module _ (s : ℕ) (bs : List ℕ) (i : ℕ) where
-  pub end_here : i < length bs → get_or bs i 0 ≡ s → i ≡ part_end s bs i
+  end_here : i < length bs → get_or bs i 0 ≡ s → i ≡ part_end s bs i
   unfolding part_end
   end_here h e = rw (drop_next bs i h, parts_here s (get_or bs i 0) (drop (i + 1) bs) (eq-eqb _ _ e)) (omega arith)
 
-  pub end_on : i < length bs → (get_or bs i 0 ≡ s → ⊥) → part_end s bs (i + 1) ≡ part_end s bs i
+  end_on : i < length bs → (get_or bs i 0 ≡ s → ⊥) → part_end s bs (i + 1) ≡ part_end s bs i
   unfolding part_end
   end_on h e =
       rw (drop_next bs i h, parts_on s (get_or bs i 0) (drop (i + 1) bs) (ne_eqb _ _ e), to_first_length (get_or bs i 0) (parts_at s (drop (i + 1) bs)))
       (omega arith)
 
-  pub end_past : length bs ≤ i → i ≡ part_end s bs i
+  end_past : length bs ≤ i → i ≡ part_end s bs i
   unfolding part_end
   end_past h = rw (drop_of_length-le bs h, parts_nil s) (omega arith)
 
@@ -101,12 +101,21 @@ module _ (s : ℕ) (bs : List ℕ) (i : ℕ) where
   pub behind_end : length bs ≤ i → parts_behind s (drop i bs) ≡ []
   behind_end h = rw (drop_of_length-le bs h, behind_nil)
 
--- a search from a place on that went past the last byte
-pub end_searched : (s : ℕ) (bs : List ℕ) (from i : ℕ) → (from ≤ length bs → i ≤ length bs) → length bs ≤ i → part_end s bs i ≡ part_end s bs from → max from (length bs) ≡ part_end s bs from
-end_searched s bs from i ends past on = by_order from (length bs) within beyond
-  where
-    within : from ≤ length bs → max from (length bs) ≡ part_end s bs from
-    within h = let there : max from (length bs) ≡ i = omega (arith, ends h) in there ∙ end_past s bs i past ∙ on
+-- ---- a search from a place on: at the separator, one place further, and past the last byte
+module _ (s : ℕ) (bs : List ℕ) (from i : ℕ) (on : part_end s bs i ≡ part_end s bs from) where
+  pub search_found : i < length bs → get_or bs i 0 ≡ s → i ≡ part_end s bs from
+  search_found h e = end_here s bs i h e ∙ on
 
-    beyond : length bs < from → max from (length bs) ≡ part_end s bs from
-    beyond h = let there : max from (length bs) ≡ from = omega arith in there ∙ end_past s bs from (omega arith)
+  pub search_next : i < length bs → (get_or bs i 0 ≡ s → ⊥) → part_end s bs (i + 1) ≡ part_end s bs from
+  search_next h e = end_on s bs i h e ∙ on
+
+  pub search_ended : (from ≤ length bs → i ≤ length bs) → length bs ≤ i → max from (length bs) ≡ part_end s bs from
+  search_ended ends past = by_order from (length bs) within beyond
+    where
+      within : from ≤ length bs → max from (length bs) ≡ part_end s bs from
+      within h = let there : max from (length bs) ≡ i = omega (arith, ends h) in there ∙ end_past s bs i past ∙ on
+
+      beyond : length bs < from → max from (length bs) ≡ part_end s bs from
+      beyond h = let there : max from (length bs) ≡ from = omega arith in there ∙ end_past s bs from (omega arith)
+
+pub ruleset search_laws = (search_found, search_next, search_ended)

@@ -15,6 +15,7 @@ pub const SPACE: u8 = 32;
 
 // Where the line or the word ends that begins at `from`: at the next separator, or where the bytes end. Past their end
 // that is `from` itself.
+#[tactic(auto, using(crate::proofs::PartLaws::search_laws))]
 pub fn part_end(bytes: &[u8], separator: u8, from: usize) -> usize
     ensures { result ≡ part_end separator bytes.now from }
 {
@@ -27,6 +28,7 @@ pub fn part_end(bytes: &[u8], separator: u8, from: usize) -> usize
 }
 
 // What a line's first word asks.
+#[tactic(auto, using(crate::proofs::LineLaws::first_word_laws))]
 pub fn read_request(line: &[u8]) -> Asked
     ensures request_value { result.request ≡ request_of line.now }
     ensures fallback_value { result.fallback ≡ fallback_of line.now }
@@ -37,6 +39,7 @@ pub fn read_request(line: &[u8]) -> Asked
 
 // The classes that the further words name, as many as the buffer holds, and how many that is. Whether more words
 // follow is not looked at, so a buffer with one place more than is wanted shows a line that is too long.
+#[tactic(auto, using(crate::proofs::LineLaws::reading_laws))]
 pub fn read_classes(line: &[u8], classes: &mut [u8]) -> usize
     ensures { ClassesRead line.now classes.old result classes.new }
 {
