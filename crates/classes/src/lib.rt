@@ -97,11 +97,13 @@ pub fn is_strong(c: u8) -> bool
     matches!(c, L | R | AL)
 }
 
+// One comparison each: an edit that gives two of these classes one number must reach the prover, and a pattern would not
+// take it.
 #[tactic(auto, using(laws::proofs::Tests::tests), unfolding(rules::specs::Classes::is_neutral))]
 pub fn is_neutral(c: u8) -> bool
     ensures { result ≡ is_neutral c }
 {
-    is_paragraph_end(c) || matches!(c, S | WS | ON)
+    is_paragraph_end(c) || c == S || c == WS || c == ON
 }
 
 #[tactic(auto, using(laws::proofs::Tests::tests), unfolding(rules::specs::Classes::is_separator))]
