@@ -17,10 +17,6 @@ use Rattle.printing.specs.Printing.{most_classes, paragraph_text, line_text, mos
 use Rattle.printing.proofs.TextLaws.{text_of_front, front_within, front_is}
 use Rattle.printing.proofs.LengthLaws.{line_short}
 
--- ---- how many classes were read stands in the buffer
-pub read_within : {line before after : List ℕ} {count : ℕ} → ClassesRead line before count after → count ≤ length after
-read_within {line} {before} read = front_within (take (length before) (classes_of line)) before read.count read.classes
-
 -- ---- a line's text is that of the classes that were read of it, one more than the longest paragraph has
 pub line_told : {line before after : List ℕ} {request fallback count : ℕ} → length before ≡ most_classes → request ≡ request_of line → fallback ≡ fallback_of line → ClassesRead line before count after → paragraph_text request fallback (take count after) ≡ line_text line
 unfolding line_text

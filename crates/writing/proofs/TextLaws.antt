@@ -69,10 +69,6 @@ module _ {s t before mid after : List ℕ} {at e end : ℕ} where
         behind = q.behind ∙ omega (arith, p.behind, long, length-append s t);
       }
 
--- the same text by another name
-pub puts_same : {s t before after : List ℕ} {at end : ℕ} → s ≡ t → Puts s before at after end → Puts t before at after end
-puts_same e p = rw e at p
-
 -- ---- a text that has room from the buffer's first place on
 put_sets : (at : ℕ) (text buffer : List ℕ) → put_text at text buffer ≡ sets buffer at text
 unfolding put_text
@@ -96,5 +92,6 @@ module _ {s t : List ℕ} {before mid after : Output} where
 pub writes_on : {text : List ℕ} {before output : Output} → Writes text before output → Writes [] output output
 writes_on {text} {before} {output} p = record { puts = puts_nothing output.out.now output.at output.at (omega (arith, p.puts.behind, puts_long p.puts)); lent = refl }
 
+-- the same text by another name
 pub writes_same : {s t : List ℕ} {before after : Output} → s ≡ t → Writes s before after → Writes t before after
 writes_same e p = rw e at p
