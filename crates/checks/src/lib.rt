@@ -35,7 +35,7 @@ pub fn check_classes(classes: &[u8]) -> Result<(), Refusal>
     first_fault(classes)
 }
 
-// 5, then 6; `room` is how many positions the level buffer has. The default is checked also where it will not be used.
+// 5, then 6; `room` is how many positions the level buffer has. Request and default come as two bytes, as C gives them. The default is checked also where it will not be used.
 #[tactic(auto, using(laws::proofs::Tests::tests), unfolding(rules::specs::Refusals::check_request, rules::specs::Refusals::check_level_room))]
 fn check_request(classes: &[u8], request: u8, fallback: u8, room: usize) -> Result<(), Refusal>
     ensures { check_of result ≡ (check_request request fallback and_then check_level_room classes.now room) }

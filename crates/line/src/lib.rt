@@ -19,7 +19,7 @@ pub struct Placed {
     pub reversed: usize,
 }
 
-// A line with its own classes and levels, and where it begins in its paragraph.
+// A line with its own classes and levels, and where it begins in its paragraph. Nothing compares or prints one.
 #[derive(Clone, Copy)]
 struct Line<'a> {
     classes: &'a [u8],
@@ -39,6 +39,7 @@ impl Line<'_> {
         ensures { OrderedItems (line_items self.now.base self.now.from self.now.classes.now self.now.levels.now) order.old result order.new }
     {
         reset::reset(self.classes, self.levels, self.base, work);
+        // Packed in the lent work buffer, with their count: no heap.
         let count = kept::gather(self.classes, Position(self.from), work, order);
         let packed = &work[..count];
         let top = level_range::highest_level(packed);
@@ -64,6 +65,9 @@ impl Line<'_> {
     }
 }
 
+// What is asked of the lent slices and of the line's two ends stays clauses in both functions: the job's checks give each
+// by itself, and a struct of them would be opened at once.
+//
 // The order of the line from one position up to, not including, another. The work buffer is chosen by
 // the line's length, so that a short label does not pay for the longest line.
 pub fn order_line(

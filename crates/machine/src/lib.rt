@@ -36,7 +36,7 @@ pub enum Verdict {
 
 // The pairs not yet matched lie in two arrays, of which the first `depth` places count: no heap, and the form that
 // document 01 and ticket 5 name. Invalid codes need no places of their own: only at levels 60 and 61 can there be any,
-// and they are matched before what is remembered below.
+// and they are matched before what is remembered below. Nothing compares or prints a machine.
 #[derive(Clone, Copy)]
 pub struct Machine {
     levels: [u8; MOST],

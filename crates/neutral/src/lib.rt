@@ -74,6 +74,7 @@ fn pick(test: bool, one: u8, other: u8) -> u8
 }
 
 // The levels that the types of a run come to: one for each type that I1 and I2 raise, and the run's own for any other.
+// Nothing compares or prints them.
 #[derive(Clone, Copy)]
 struct Finals {
     l: u8,

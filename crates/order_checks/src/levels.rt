@@ -31,7 +31,8 @@ pub(crate) fn any_bad_level(classes: &[u8], levels: &[u8]) -> bool
     bad
 }
 
-// The walk to the first lent level that is bad, on the paragraph's positions alone.
+// The walk to the first lent level that is bad, on the paragraph's positions alone. One walk for this and for the first fault
+// of the classes would take the check as a closure, and save two lines.
 pub(crate) fn search_bad_level(classes: &[u8], levels: &[u8]) -> Result<(), Refusal>
     requires { length classes.now ≤ length levels.now }
     ensures { check_of result ≡ first_bad_level 0 classes.now levels.now }

@@ -61,7 +61,7 @@ pub fn put(order: &mut [u16], at: Place, what: Position)
     requires what_bound { what.0 < 65536 }
     ensures { order.new ≡ set order.old at.0 what.0 }
 {
-    order[at.0] = what.0 as u16;
+    order[at.0] = what.0 as u16; // it fits, as the clause says: no `From` narrows
 }
 
 pub fn position_of(order: &[u16], at: Place) -> Position

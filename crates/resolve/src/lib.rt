@@ -9,7 +9,7 @@ ghost use Rattle.rules.specs.Resolve.{resolved_levels};
 mod plain;
 mod scatter;
 
-// Gather, resolve, put back. The level buffer holds the packed levels meanwhile; `types` is room to work in. What is
+// Gather, resolve, put back. The level buffer holds the packed levels meanwhile, with their count, since there is no heap; `types` is room to work in. What is
 // asked stands at each of these functions: a struct of what is lent would be taken apart again by every call.
 fn resolve_gathered(classes: &[u8], base: u8, levels: &mut [u8], types: &mut [u8])
     requires { (base ≤ 1) × (length classes.now ≤ length levels.old) × (length classes.now ≤ length types.old) }

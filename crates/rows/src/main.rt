@@ -54,6 +54,7 @@ fn row(rt: &impl Print, row: &[u8]) -> io::Result<()> {
         levels: read::bytes(read::field(row, 3), &mut levels),
         order,
         ends: read::numbers(read::field(row, 6), &mut ends),
+        // A row's numbers may be larger than a byte: the lowest bits count. No `From` narrows.
         asked: Asked {
             request: (read::number(read::field(row, 5)) % 256) as u8,
             fallback: (read::number(read::field(row, 7)) % 256) as u8,

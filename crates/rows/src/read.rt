@@ -28,7 +28,7 @@ fn digits(word: &[u8]) -> u16 {
         .fold(0, |n, b| n % 1000 * 10 + u16::from(b % 16))
 }
 
-// A class by its name, or a byte by its digits.
+// A class by its name, or a byte by its digits, of which the lowest bits count.
 fn value(word: &[u8]) -> u8 {
     match words::class_named(word) {
         words::UNKNOWN_NAME => (digits(word) % 256) as u8,

@@ -33,7 +33,7 @@ impl Lent<'_> {
             return Ok(None);
         }
         self.tell_value(rt, job, answer)?;
-        Ok(Some((answer.value % 256) as u8))
+        Ok(Some((answer.value % 256) as u8)) // a base is a byte
     }
 
     // The levels are the marks' flags.

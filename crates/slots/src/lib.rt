@@ -17,5 +17,5 @@ pub fn reversed(levels: &[u8], lowest: u8) -> usize
         .iter()
         .map(|level| u32::from(level.saturating_sub(below_lowest)))
         .sum();
-    total as usize
+    total as usize // 32 bits: no `From` for a width that a machine chooses
 }
