@@ -1,6 +1,7 @@
 -- From what Order leaves to what it displays and to what its count comes to: demand 3 and ticket 6 for a caller.
 -- Assumes nothing.
-use Rattle.std.specs.Prelude.{Result, IsErrAnd}
+use Rattle.std.specs.Prelude.{Result, Err, IsErrAnd}
+use Rattle.std.proofs.lemmas.Result.{err_from_is_err_and}
 use Prim.Native.Nat.{ℕ}
 use native.Mathlib.Omega.{arith}
 use mathlib.Core.Path.{◌≡◌, refl, sym, ◌∙◌}
@@ -10,7 +11,7 @@ use Rattle.laws.specs.Parts.{over}
 use Rattle.rules.specs.Line.{line_kept, line_order, all_orders}
 use Rattle.rules.specs.Refusals.{highest_resolved, sound, refuse, checks_of_line, checks_of_lines}
 use Rattle.rules.specs.Reversals.{line_reversed, all_reversed}
-use Rattle.rules.specs.Jobs.{Answer, accepted, Placing, line_placing, lines_placing, line_answer, line_buffer, lines_answer, lines_buffer}
+use Rattle.rules.specs.Jobs.{Answer, accepted, refused, Placing, line_placing, lines_placing, line_answer, line_buffer, lines_answer, lines_buffer}
 use Rattle.rules.proofs.JobLaws.{accepted_sound, written_front}
 use Rattle.rules.proofs.LowLaws.{kept_fit, line_most, all_most}
 use Rattle.rules.proofs.ReversalLaws.{counted, each_counted}
@@ -21,7 +22,7 @@ use Rattle.line.specs.Ordered.{Ordered}
 use Rattle.line.specs.declared.Placed.{Placed}
 use Rattle.refusals.specs.Page.{number_of, place_of}
 use Rattle.refusals.specs.declared.Refusal.{Refusal}
-use Rattle.melvorash.proofs.AnswerLaws.{leaves_handed, leaves_written}
+use Rattle.melvorash.proofs.AnswerLaws.{leaves_refused, leaves_written}
 use Rattle.melvorash.specs.Answers.{placing_of, order_page, Leaves, OrdersLine, OrdersLines}
 
 orders_line : (cs levels : List ℕ) (base from to : ℕ) (order : List ℕ) (answer : Answer Placing) (after : List ℕ) → Leaves (line_answer cs levels base from to order) (line_buffer cs levels base from to order) answer after → OrdersLine cs levels base from to order answer after
@@ -66,11 +67,17 @@ placing_is r o = λ j. record { placed = o.placed j; reversed = o.reversed j }
 
 -- ---- the two returns of each form
 module _ (cs levels : List ℕ) (base from to : ℕ) (order : List ℕ) where
-  pub line_handed : (found : Result Placed Refusal) (r : Refusal) → IsErrAnd found (λ (e : Refusal). e ≡ r) → refuse (number_of r) (place_of r) ≡ checks_of_line cs levels base from to (length order) → OrdersLine cs levels base from to order (order_page found) order
+  pub line_refused : (number place : ℕ) → checks_of_line cs levels base from to (length order) ≡ refuse number place → OrdersLine cs levels base from to order (refused number place) order
   unfolding line_answer line_buffer
+  line_refused number place e =
+      orders_line cs levels base from to order (refused number place) order
+      (leaves_refused (checks_of_line cs levels base from to (length order)) number place (line_placing cs levels base from to) (over (line_order base cs levels from to) order) order e)
+
+  -- what `?` handed on
+  pub line_handed : (found : Result Placed Refusal) (r : Refusal) → IsErrAnd found (λ (e : Refusal). e ≡ r) → refuse (number_of r) (place_of r) ≡ checks_of_line cs levels base from to (length order) → OrdersLine cs levels base from to order (order_page found) order
   line_handed found r is e =
-      orders_line cs levels base from to order (order_page found) order
-      (leaves_handed placing_of (checks_of_line cs levels base from to (length order)) (line_placing cs levels base from to) (over (line_order base cs levels from to) order) order found r is e)
+      let told : (y : Refusal) × (found ≡ Err y) × (y ≡ r) = err_from_is_err_and found is in
+      rw (told.1, told.2) (line_refused (number_of r) (place_of r) (sym e))
 
   pub line_written : (r : Placed) (after : List ℕ) → checks_of_line cs levels base from to (length order) ≡ sound → Ordered (line_order base cs levels from to) (line_reversed base cs levels from to) order r after → OrdersLine cs levels base from to order (accepted (placing_of r)) after
   unfolding line_answer line_buffer
@@ -79,11 +86,17 @@ module _ (cs levels : List ℕ) (base from to : ℕ) (order : List ℕ) where
       (leaves_written (checks_of_line cs levels base from to (length order)) (placing_of r) (line_placing cs levels base from to) (over (line_order base cs levels from to) order) order after e (placing_is r o) o.order)
 
 module _ (cs levels : List ℕ) (base : ℕ) (ends order : List ℕ) where
-  pub lines_handed : (found : Result Placed Refusal) (r : Refusal) → IsErrAnd found (λ (e : Refusal). e ≡ r) → refuse (number_of r) (place_of r) ≡ checks_of_lines cs levels base ends (length order) → OrdersLines cs levels base ends order (order_page found) order
+  pub lines_refused : (number place : ℕ) → checks_of_lines cs levels base ends (length order) ≡ refuse number place → OrdersLines cs levels base ends order (refused number place) order
   unfolding lines_answer lines_buffer
+  lines_refused number place e =
+      orders_lines cs levels base ends order (refused number place) order
+      (leaves_refused (checks_of_lines cs levels base ends (length order)) number place (lines_placing cs levels base ends) (over (all_orders base cs levels 0 ends) order) order e)
+
+  -- what `?` handed on
+  pub lines_handed : (found : Result Placed Refusal) (r : Refusal) → IsErrAnd found (λ (e : Refusal). e ≡ r) → refuse (number_of r) (place_of r) ≡ checks_of_lines cs levels base ends (length order) → OrdersLines cs levels base ends order (order_page found) order
   lines_handed found r is e =
-      orders_lines cs levels base ends order (order_page found) order
-      (leaves_handed placing_of (checks_of_lines cs levels base ends (length order)) (lines_placing cs levels base ends) (over (all_orders base cs levels 0 ends) order) order found r is e)
+      let told : (y : Refusal) × (found ≡ Err y) × (y ≡ r) = err_from_is_err_and found is in
+      rw (told.1, told.2) (lines_refused (number_of r) (place_of r) (sym e))
 
   pub lines_written : (r : Placed) (after : List ℕ) → checks_of_lines cs levels base ends (length order) ≡ sound → Ordered (all_orders base cs levels 0 ends) (all_reversed base cs levels 0 ends) order r after → OrdersLines cs levels base ends order (accepted (placing_of r)) after
   unfolding lines_answer lines_buffer
