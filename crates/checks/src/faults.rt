@@ -6,7 +6,8 @@ ghost use Rattle.checks.specs.Faults.{is_fault, closing_at};
 
 use refusals::Refusal;
 
-// Whether a separator may stand here: last, or as the CR of a last pair.
+// Whether a separator may stand here: last, or as the CR of a last pair. The walk that asks is at a position of the text, so
+// this and `fault_at` ask for one.
 #[tactic(auto, using(laws::proofs::Tests::tests, crate::proofs::FaultLaws::may_end_laws))]
 pub(crate) fn may_end(classes: &[u8], i: usize) -> bool
     requires { i < length classes.now }

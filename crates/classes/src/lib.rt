@@ -51,7 +51,7 @@ pub const HIGHEST: u8 = CR;
 // A table by class has a place for each class, and behind them one for every other number.
 pub const ROW_WIDTH: usize = HIGHEST as usize + 2;
 
-// What a level buffer holds at a removed position.
+// What a level buffer holds at a removed position: C lends levels as bytes.
 pub const REMOVED_LEVEL: u8 = 255;
 
 // The most positions of a paragraph, and the highest levels before and after the implicit rules.
@@ -97,8 +97,7 @@ pub fn is_strong(c: u8) -> bool
     matches!(c, L | R | AL)
 }
 
-// One comparison each: an edit that gives two of these classes one number must reach the prover, and a pattern would not
-// take it.
+// One comparison each and no pattern, which may not name a number twice: the must-fail edits of S and WS give two classes one.
 #[tactic(auto, using(laws::proofs::Tests::tests), unfolding(rules::specs::Classes::is_neutral))]
 pub fn is_neutral(c: u8) -> bool
     ensures { result ≡ is_neutral c }

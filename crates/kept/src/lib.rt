@@ -9,7 +9,8 @@ ghost use Rattle.kept.specs.LaidOut.{LaidOut};
 
 use places::{Place, Position};
 
-// One position at a time: a removed one is passed over.
+// One position at a time: a removed one is passed over. The three functions ask for room in the lent buffers and for positions
+// of 16 bits: `line` has all of it, and a struct of two lent buffers would be opened at once.
 fn gather_kept(classes: &[u8], from: Position, levels: &mut [u8], order: &mut [u16]) -> usize
     requires classes_in_bounds { length classes.now ≤ length levels.old }
     requires classes_in_bounds_2 { length classes.now ≤ length order.old }

@@ -15,7 +15,8 @@ pub fn highest_level(levels: &[u8]) -> u8
     levels.iter().fold(0, |top, level| top.max(*level))
 }
 
-// The lowest level, or 255 where there is none.
+// The lowest level, or 255 where there is none, which no block of places is: an Option would be opened for nothing. One
+// fold for this and for the highest would take `min` and `max` as closures, and be longer than the two.
 pub fn lowest_level(levels: &[u8]) -> u8
     ensures { result ≡ lowest 255 levels.now }
 {

@@ -17,14 +17,14 @@ const MOST: usize = classes::HIGHEST_EXPLICIT as usize;
 
 // A level and the override there (ON where there is none, as the definitions write it): what a valid code takes, and
 // what its PDF goes back to.
-#[derive(Clone, Copy, PartialEq, Eq)]
+#[derive(Clone, Copy, Debug, PartialEq, Eq)]
 pub struct Pair {
     level: u8,
     over: u8,
 }
 
 // What a class does in a state. A verdict that opens or closes validly names the level and override to take.
-#[derive(Clone, Copy, PartialEq, Eq)]
+#[derive(Clone, Copy, Debug, PartialEq, Eq)]
 pub enum Verdict {
     OpensValid(Pair),
     OpensInvalid,
@@ -35,8 +35,8 @@ pub enum Verdict {
 }
 
 // The pairs not yet matched lie in two arrays, of which the first `depth` places count: no heap, and the form that
-// document 01 and ticket 5 name. Invalid codes need no places of their own: only at levels 60 and 61 can there be any,
-// and they are matched before what is remembered below. Nothing compares or prints a machine.
+// document 01 names (docs/DECISIONS.md). Invalid codes need no places of their own: only at levels 60 and 61 can there be
+// any, and they are matched before what is remembered below. Nothing compares or prints a machine.
 #[derive(Clone, Copy)]
 pub struct Machine {
     levels: [u8; MOST],

@@ -31,7 +31,7 @@ pub fn resolve_levels(
 ) -> Result<u8, Refusal>
     ensures { Leaves (levels_answer classes.now request fallback levels.old) (resolve_buffer classes.now request fallback levels.old) (levels_page result) levels.new }
 {
-    checks::check_levels(classes, request, fallback, levels.len())?; // as Explicit
+    checks::check_levels(classes, request, fallback, levels.len())?; // what Explicit asks
     let used = paragraph::base_of(request, fallback, classes);
     resolve::resolve_levels(classes, used, levels);
     Ok(used)

@@ -7,6 +7,7 @@ ghost use Rattle.melvorash.specs.Stops.{stop_at};
 use refusals::Refusal;
 
 // What Cut answers where its walk stops: at a class that is none, or at a separator. A CR takes the B along that follows it.
+// The walk of Cut is at a position of the text, so one is asked for.
 pub(crate) fn stop_at(classes: &[u8], i: usize) -> Result<usize, Refusal>
     requires { i < length classes.now }
     ensures { cut_page result ≡ stop_at classes.now i }

@@ -13,7 +13,8 @@ pub struct Answer {
     pub value: usize,
 }
 
-// The answer of an order: how many positions were reversed, too. Refused: value and reversed 0.
+// The answer of an order: how many positions were reversed, too. Refused: value and reversed 0. C's header has both structs,
+// and a refusal that is 0 where there is none.
 #[repr(C)]
 #[derive(Clone, Copy, Debug, PartialEq, Eq)]
 pub struct OrderAnswer {
@@ -40,7 +41,7 @@ impl From<Result<usize, Refusal>> for Answer {
             Err(refusal) => Answer {
                 refusal: usize::from(refusal.number()),
                 place: refusal.place(),
-                value: 0, // none
+                value: 0, // there is no value
             },
         }
     }

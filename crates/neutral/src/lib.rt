@@ -149,8 +149,8 @@ fn spread_levels(types: &[u8], finals: Finals, sides: Sides, levels: &mut [u8])
     }
 }
 
-#[tactic(auto, using(crate::proofs::ImplicitLaws::finals_levels))]
 // A struct of types and levels would be taken apart at once, since the rules on types need no levels; so two clauses stay.
+#[tactic(auto, using(crate::proofs::ImplicitLaws::finals_levels))]
 pub fn neutral_levels(types: &[u8], level: u8, sides: Sides, levels: &mut [u8])
     requires types_len { length types.now ≡ length levels.old }
     requires level_bound { level + 2 < 256 }

@@ -11,7 +11,7 @@ ghost use Rattle.refusals.specs.Page.{check_of};
 use levels::first_bad_level;
 use refusals::Refusal;
 
-// 5, 6, then 7: the base and the levels that Order is lent.
+// 5, 6, then 7: the base and the levels that Order is lent. They come beside the classes, each by itself, as C lends them.
 #[tactic(auto, using(laws::proofs::Tests::tests), unfolding(rules::specs::Refusals::check_base, rules::specs::Refusals::check_level_room))]
 fn check_lent(classes: &[u8], levels: &[u8], base: u8) -> Result<(), Refusal>
     ensures { check_of result ≡ (check_base base and_then check_level_room classes.now (length levels.now) and_then first_bad_level 0 classes.now levels.now) }

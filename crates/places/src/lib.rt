@@ -1,6 +1,7 @@
 // A position in memory order and a place on the display are counted apart, each by its own type: what is known of
 // a position of the text cannot be taken for a place of the order. The functions here are the only ones of a line's
-// crates that index a buffer by either. A position counts from the start of the slice that is lent, the paragraph's or the
+// crates that read or write one element by either. Each asks for an index within its slice, which whoever counts by them
+// has: a test at each access would cost what the order costs. A position counts from the start of the slice that is lent, the paragraph's or the
 // line's; a place from the line's first.
 #![tactic(auto)]
 

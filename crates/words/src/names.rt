@@ -2,7 +2,7 @@
 ghost use Rattle.std.specs.Prelude.{◌≡◌};
 ghost use Rattle.words.specs.Words.{class_named, request_named, fallback_named};
 
-// The class of a word that names none.
+// The class of a word that names none: a byte like every class, so that a job refuses it with 2.
 pub const UNKNOWN_NAME: u8 = 255;
 
 // The class that a word names.
