@@ -40,6 +40,18 @@ may_not c [] some more = absurd (some refl)
 may_not c (d ∷ []) some more = absurd (more refl)
 may_not c (d ∷ e ∷ cs) some more = rw (ne_eqb (length (d ∷ e ∷ cs)) 1 more) (sym (and_false (is_pair c (d ∷ e ∷ cs))))
 
+-- the same of a position and its list, by how many stand behind it
+pub last_behind : (cs : List ℕ) (i : ℕ) → i < length cs → length cs - i - 1 ≡ 0 → true ≡ may_end (get_or cs i 0) (drop (i + 1) cs)
+last_behind cs i within none = may_last _ _ (length-drop (i + 1) cs ∙ omega arith)
+
+pub pair_behind : (cs : List ℕ) (i : ℕ) → i < length cs → length cs - i - 1 ≡ 1 → is_pair (get_or cs i 0) (drop (i + 1) cs) ≡ may_end (get_or cs i 0) (drop (i + 1) cs)
+pair_behind cs i within one = may_pair _ _ (length-drop (i + 1) cs ∙ omega arith)
+
+pub more_behind : (cs : List ℕ) (i : ℕ) → i < length cs → (length cs - i - 1 ≡ 0 → ⊥) → (length cs - i - 1 ≡ 1 → ⊥) → false ≡ may_end (get_or cs i 0) (drop (i + 1) cs)
+more_behind cs i within some more =
+    let left : length (drop (i + 1) cs) ≡ length cs - (i + 1) = length-drop (i + 1) cs in
+    may_not _ _ (λ none. some (omega arith)) (λ one. more (omega arith))
+
 -- ---- the fault at one position
 pub fault_unknown : (at c : ℕ) (cs : List ℕ) → is_unknown c ≡ true → fault_at at c cs ≡ refuse 2 at
 unfolding fault_at
@@ -167,6 +179,6 @@ closing cs n some e =
         let one : length (drop (n + 1) cs) ≡ 1 = length-drop (n + 1) cs ∙ omega arith in
         record { within = omega arith; ends = sym (may_pair (get_or cs n 0) (drop (n + 1) cs) one) ∙ rw is pair }
 
-pub ruleset may_end_laws = (may_last, may_pair, may_not)
+pub ruleset may_end_laws = (last_behind, pair_behind, more_behind)
 
 pub ruleset closing_laws = (closing_alone, closing_pair, closing_last)

@@ -19,8 +19,8 @@ const MOST: usize = classes::HIGHEST_EXPLICIT as usize;
 // what its PDF goes back to.
 #[derive(Clone, Copy, Debug, PartialEq, Eq)]
 pub struct Pair {
-    level: u8,
-    over: u8,
+    pub level: u8,
+    pub over: u8,
 }
 
 // What a class does in a state. A verdict that opens or closes validly names the level and override to take.

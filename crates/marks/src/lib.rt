@@ -11,6 +11,7 @@ use refusals::Refusal;
 
 // The order in which the characters are drawn, from their combining classes and a flag for each that is not 0 where it is a
 // modifier mark. Answers how many characters were put in drawing order.
+#[tactic(auto, using(crate::proofs::JobLaws::marks_laws))]
 pub fn drawing_order(classes: &[u8], flags: &[u8], order: &mut [u16]) -> Result<usize, Refusal>
     ensures { DrawsMarks classes.now flags.now order.old (marks_page result) order.new }
 {

@@ -2,14 +2,16 @@
 -- what was to be written. Assumes nothing.
 use Rattle.std.specs.Prelude.{Result, Err, IsErrAnd}
 use Rattle.std.proofs.lemmas.Result.{err_from_is_err_and}
-use Prim.Native.Nat.{ℕ}
+use Prim.Native.Nat.{ℕ, ◌≤◌}
 use mathlib.Core.Path.{◌≡◌, sym, ap, ◌∙◌}
 use mathlib.Core.List.{List}
 use lib.ListN.{length}
 use Rattle.laws.specs.Parts.{over}
 use Rattle.rules.specs.Paragraph.{base_of}
-use Rattle.rules.specs.Refusals.{Check, sound, refuse, checks_of_levels}
+use Rattle.rules.specs.Refusals.{longest_paragraph, Check, sound, refuse, checks_of_levels}
 use Rattle.rules.specs.Jobs.{accepted, refused, answered, where_sound, levels_answer}
+use Rattle.rules.proofs.SoundLaws.{levels_sound}
+use Rattle.rules.proofs.BaseTheorem.{base_of_small}
 use Rattle.rules.proofs.JobLaws.{answer_refused, answer_sound, left_refused, left_sound}
 use Rattle.refusals.specs.Page.{number_of, place_of}
 use Rattle.refusals.specs.declared.Refusal.{Refusal}
@@ -39,3 +41,19 @@ module _ (levels_by : ℕ → List ℕ) (cs : List ℕ) (request fallback : ℕ)
   levels_written base after e used wrote =
       leaves_written (checks_of_levels cs request fallback (length levels)) base (base_of request fallback cs) (over (levels_by (base_of request fallback cs)) levels) levels after e used
       (wrote ∙ ap (λ (b : ℕ). over (levels_by b) levels) used)
+
+-- Resolve: what its checks give the work. They stand in the function's `using`, so its goals close with no step named, and an
+-- edit that puts a call between is refused by the goal itself.
+module _ (cs : List ℕ) (request fallback : ℕ) (levels : List ℕ) where
+  pub resolve_low : (base : ℕ) → sound ≡ checks_of_levels cs request fallback (length levels) → base ≡ base_of request fallback cs → base ≤ 1
+  resolve_low base e used =
+      let s = levels_sound cs request fallback (length levels) (sym e) in
+      rw used (base_of_small request fallback cs s.asked s.instead)
+
+  pub resolve_fits : sound ≡ checks_of_levels cs request fallback (length levels) → length cs ≤ length levels
+  resolve_fits e = (levels_sound cs request fallback (length levels) (sym e)).fits
+
+  pub resolve_few : sound ≡ checks_of_levels cs request fallback (length levels) → length cs ≤ longest_paragraph
+  resolve_few e = (levels_sound cs request fallback (length levels) (sym e)).few
+
+pub ruleset resolve_laws = (resolve_low, resolve_fits, resolve_few)

@@ -23,6 +23,7 @@ pub fn explicit_levels(
 }
 
 // The levels as they stand after I1 and I2, before any line is known.
+#[tactic(auto, using(crate::proofs::AnswerLaws::resolve_laws), unfolding(rules::specs::Jobs::levels_answer, rules::specs::Jobs::resolve_buffer))]
 pub fn resolve_levels(
     classes: &[u8],
     request: u8,

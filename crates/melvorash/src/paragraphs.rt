@@ -58,6 +58,7 @@ pub fn cut_part(classes: &[u8]) -> &[u8]
 }
 
 // The base level of one paragraph, by its text. That nothing decides it is an answer, so that a caller knows a guess.
+#[tactic(auto, using(refusals::proofs::PageLaws::answer_handed, rules::proofs::JobLaws::answer_sound), unfolding(rules::specs::Jobs::base_answer, rules::specs::Refusals::checks_of_base))]
 pub fn base(classes: &[u8]) -> Result<Option<u8>, Refusal>
     ensures { base_page result ≡ base_answer classes.now }
 {

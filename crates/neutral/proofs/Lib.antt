@@ -2,3 +2,4 @@
 pub mod NeutralLaws
 pub mod ImplicitLaws
 pub mod SpreadLaws
+pub mod StretchLaws

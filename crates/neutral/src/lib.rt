@@ -124,7 +124,7 @@ impl Finals {
 
 // N1, N2 and I in one pass from the types to the levels: where a stretch of neutrals ends, all of it is filled. W5 to
 // W7 go the same way, but in place and with a strong type carried along: one function for both would be no plainer.
-fn spread_levels(types: &[u8], finals: Finals, sides: Sides, levels: &mut [u8])
+fn spread_short(types: &[u8], finals: Finals, sides: Sides, levels: &mut [u8])
     requires { length types.now ≡ length levels.old }
     ensures { levels.new ≡ map (final_level finals) (N2 finals.own (N1 sides.sor sides.eor types.now)) }
 {
@@ -146,6 +146,60 @@ fn spread_levels(types: &[u8], finals: Finals, sides: Sides, levels: &mut [u8])
     if from < types.len() {
         let changed = change_neutral(finals.own, before, sides.eor);
         parts::fill(&mut levels[from..], finals.of_type(changed));
+    }
+}
+
+// I1 and I2 of each type as it stands. A straight loop with no branch, so that many types are read at once.
+fn own_levels(types: &[u8], finals: Finals, levels: &mut [u8])
+    requires { length types.now ≡ length levels.old }
+    ensures { levels.new ≡ map (final_level finals) types.now }
+{
+    for (i, t) in types.iter().enumerate() {
+        levels[i] = finals.of_type(*t);
+    }
+}
+
+// N1, N2 and I on the stretches of neutrals, where every other type has its level.
+fn fill_stretches(types: &[u8], finals: Finals, sides: Sides, levels: &mut [u8])
+    requires { levels.old ≡ map (final_level finals) types.now }
+    ensures { levels.new ≡ map (final_level finals) (N2 finals.own (N1 sides.sor sides.eor types.now)) }
+{
+    let mut before = sides.sor;
+    let mut at = 0;
+    // A `while`: it goes from stretch to stretch, by one search for both of its ends.
+    while at < types.len() {
+        let from = at + parts::leading(&types[at..], |t| !classes::is_neutral(t));
+        let end = from + parts::leading(&types[from..], classes::is_neutral);
+        if at < from {
+            before = types[from - 1];
+        }
+        let next = parts::element_or(types, end, sides.eor);
+        let changed = change_neutral(finals.own, before, next);
+        parts::fill(&mut levels[from..end], finals.of_type(changed));
+        at = end;
+    }
+}
+
+// The two passes of a long run. Out of line, so that the pass of a short one keeps its registers.
+#[inline(never)]
+fn spread_long(types: &[u8], finals: Finals, sides: Sides, levels: &mut [u8])
+    requires { length types.now ≡ length levels.old }
+    ensures { levels.new ≡ map (final_level finals) (N2 finals.own (N1 sides.sor sides.eor types.now)) }
+{
+    own_levels(types, finals, levels);
+    fill_stretches(types, finals, sides, levels);
+}
+
+// N1, N2 and I from the types to the levels. A long run goes by two passes, of which the first has no branch and the second
+// skips what is no neutral: plain letters take a third of the time that one pass takes. A short one would not pay for both.
+fn spread_levels(types: &[u8], finals: Finals, sides: Sides, levels: &mut [u8])
+    requires { length types.now ≡ length levels.old }
+    ensures { levels.new ≡ map (final_level finals) (N2 finals.own (N1 sides.sor sides.eor types.now)) }
+{
+    if types.len() <= parts::SHORT {
+        spread_short(types, finals, sides, levels);
+    } else {
+        spread_long(types, finals, sides, levels);
     }
 }
 

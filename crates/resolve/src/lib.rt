@@ -20,18 +20,27 @@ fn resolve_gathered(classes: &[u8], base: u8, levels: &mut [u8], types: &mut [u8
     scatter::put_back(classes, levels, count);
 }
 
-// Works in a room of so many places. Where nothing is removed there is nothing to gather and to put back.
+// Where nothing is removed there is nothing to gather and to put back. One function for rooms of both sizes: where the room is
+// known to be its own, the copy into it becomes a call of `memcpy`, which the archive does not ask for.
+fn resolve_in(classes: &[u8], base: u8, levels: &mut [u8], types: &mut [u8])
+    requires { (base ≤ 1) × (length classes.now ≤ length levels.old) × (length classes.now ≤ length types.old) }
+    ensures { levels.new ≡ over (resolved_levels base classes.now) levels.old }
+{
+    if parts::any_removed(classes) {
+        resolve_gathered(classes, base, levels, types);
+    } else {
+        plain::resolve_plain(classes, base, levels, types);
+    }
+}
+
+// Works in a room of so many places.
 fn resolve_within<const ROOM: usize>(classes: &[u8], base: u8, levels: &mut [u8])
     requires base_bound { (base ≤ 1) × (length classes.now ≤ length levels.old) }
     requires room { (length classes.now ≤ ROOM) × (ROOM ≤ longest_paragraph) }
     ensures { levels.new ≡ over (resolved_levels base classes.now) levels.old }
 {
     let mut types = [0u8; ROOM];
-    if parts::any_removed(classes) {
-        resolve_gathered(classes, base, levels, &mut types);
-    } else {
-        plain::resolve_plain(classes, base, levels, &mut types);
-    }
+    resolve_in(classes, base, levels, &mut types);
 }
 
 // A short label does not pay for the room of the longest paragraph.

@@ -1,4 +1,5 @@
 -- Laws that the proofs of this crate cite.
 pub mod BlockLaws
+pub mod TurnLaws
 pub mod PassLaws
 pub mod ItemLaws

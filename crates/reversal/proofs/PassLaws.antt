@@ -10,13 +10,14 @@ use lib.Dec.{leb, ltb}
 use borrow.Author.Tests.{le-leb, lt-leb, ltb-true, ltb-false}
 use lib.ListN.{length, get_or, take, drop, length-drop, length-reverse, drop_of_length-le, take-append-drop}
 use lib.Seq.{drop-drop, length-take-le}
-use borrow.Rule.Slice.PartMut.{put_mid, same_len_mid}
+use borrow.Rule.Slice.PartMut.{put_mid, same_len_mid, Post-is}
 use Rattle.std.proofs.lemmas.Slice.{take-put_mid, drop-put_mid}
 use Rattle.laws.proofs.Lists.{drop_next}
 use Rattle.laws.specs.Stretches.{span}
 use Rattle.laws.proofs.Passes.{span_end}
 use Rattle.reversal.specs.Passes.{below, pass_by, passes_by}
 use Rattle.laws.proofs.Filling.{Filled, filled_stays, filled_part}
+use Rattle.reversal.proofs.TurnLaws.{turned}
 
 -- the first stretch joins the one under way, and the pass goes on where it ends
 stretch_if : (b : Bool) (level l p : ℕ) (stretch ls ps : List ℕ) (s : ℕ) → leb level l ≡ b → pass_by level (p ∷ stretch) ls ps ≡ reverse_aux (take s ps) (p ∷ stretch) ++ pass_by level [] (drop s ls) (drop s ps) → (if b then pass_by level (p ∷ stretch) ls ps else stretch ++ (p ∷ pass_by level [] ls ps)) ≡ reverse_aux (take (if b then suc s else 0) (p ∷ ps)) stretch ++ pass_by level [] (drop (if b then suc s else 0) (l ∷ ls)) (drop (if b then suc s else 0) (p ∷ ps))
@@ -92,8 +93,8 @@ module _ (level : ℕ) (ls order₀ : List ℕ) (room : length ls ≤ length ord
       filled_stays _ order₀ order i n _ (rw parts at f)
 
   -- and those of the stretch are turned round
-  turned : (order : List ℕ) (s m : ℕ) → s + m ≤ length ls → m ≡ span (leb level) (drop s ls) → Filled (pass_by level [] ls order₀) order₀ order s (pass_from level ls order₀ s) → Filled (pass_by level [] ls order₀) order₀ (put_mid s m order (reverse (take m (drop s order)))) (s + m) (pass_from level ls order₀ (s + m))
-  turned order s m h is f =
+  stretch_turned : (order : List ℕ) (s m : ℕ) → s + m ≤ length ls → m ≡ span (leb level) (drop s ls) → Filled (pass_by level [] ls order₀) order₀ order s (pass_from level ls order₀ s) → Filled (pass_by level [] ls order₀) order₀ (put_mid s m order (reverse (take m (drop s order)))) (s + m) (pass_from level ls order₀ (s + m))
+  stretch_turned order s m h is f =
       let same : length order ≡ length order₀ = f.long in
       let long : length (reverse (take m (drop s order))) ≡ m = length-reverse (take m (drop s order)) ∙ length-take-le m (drop s order) (simp length-drop (omega arith)) in
       let parts : pass_from level ls order₀ s ≡ reverse (take m (drop s order)) ++ pass_from level ls order₀ (s + m) =
@@ -101,12 +102,13 @@ module _ (level : ℕ) (ls order₀ : List ℕ) (room : length ls ≤ length ord
       filled_part _ order₀ order s _ (reverse (take m (drop s order))) _ (s + m) (same_len_mid s m order _ (length-reverse (take m (drop s order))))
       (take-put_mid s m order _ (s + m) (omega arith) (omega arith)) (drop-put_mid s m order _ (s + m) (omega arith) (omega arith) long) (omega arith) (rw parts at f)
 
-  pub next : (order : List ℕ) (i s e : ℕ) → i < length ls → s ≡ i + span (below level) (drop i ls) → e ≡ s + span (leb level) (drop s ls) → Filled (pass_by level [] ls order₀) order₀ order i (pass_from level ls order₀ i) → Filled (pass_by level [] ls order₀) order₀ (put_mid s (e - s) order (reverse (take (e - s) (drop s order)))) e (pass_from level ls order₀ e)
+  pub next : (order : List ℕ) (i s e : ℕ) → i < length ls → s ≡ i + span (below level) (drop i ls) → e ≡ s + span (leb level) (drop s ls) → Filled (pass_by level [] ls order₀) order₀ order i (pass_from level ls order₀ i) → Filled (pass_by level [] ls order₀) order₀ (turned s e order) e (pass_from level ls order₀ e)
   next order i s e h begins is f =
       let size : e - s ≡ span (leb level) (drop s ls) = omega arith in
       let there : s + (e - s) ≡ e = omega arith in
       let in_bounds : e ≤ length ls = ends level ls i s h begins e is in
-      rw there at (turned order s (e - s) (omega arith) size (rw (sym begins) at (at_start order i (span (below level) (drop i ls)) refl f)))
+      rw (Post-is s e order (omega arith)) at
+      (rw there at (stretch_turned order s (e - s) (omega arith) size (rw (sym begins) at (at_start order i (span (below level) (drop i ls)) refl f))))
 
   pub ended : (order : List ℕ) (i : ℕ) → length ls ≤ i → Filled (pass_by level [] ls order₀) order₀ order i (pass_from level ls order₀ i) → order ≡ pass_by level [] ls order₀
   unfolding pass_by

@@ -1,12 +1,40 @@
-// L2: the passes of reversal, from the highest level of a line down to its lowest odd one. The order is moved; the levels
-// are read by place, as they were before any pass.
+// L2: the passes of reversal, from the highest level of a line down to its lowest odd one. The order is moved; the
+// levels are read by place, as they were before any pass.
 #![tactic(auto)]
 
-ghost use Rattle.std.specs.Prelude.{◌≡◌, ℕ, ◌+◌, ◌≤◌, Bool, true, [], leb, length, drop};
+ghost use Rattle.std.specs.Prelude.{◌≡◌, ℕ, ◌+◌, ◌≤◌, ◌<◌, Bool, true, leb};
+ghost use Rattle.std.specs.Prelude.{[], ◌++◌, length, get_or, set, take, drop, reverse};
+ghost use Rattle.std.specs.List.{between};
 ghost use Rattle.laws.specs.Stretches.{span};
 ghost use Rattle.reversal.specs.Passes.{below, Skipped, pass_by, passes_by};
 
 use places::Place;
+
+// What stands at two places is exchanged: both are read before either is written.
+fn swap(order: &mut [u16], a: Place, b: Place)
+    requires a_in_bounds { a.0 < length order.old }
+    requires b_in_bounds { b.0 < length order.old }
+    ensures { order.new ≡ set (set order.old a.0 (get_or order.old b.0 0)) b.0 (get_or order.old a.0 0) }
+{
+    let left = places::position_of(order, a);
+    let right = places::position_of(order, b);
+    places::put(order, a, right);
+    places::put(order, b, left);
+}
+
+// Turns round what stands from one place up to, not including, another. Positions are read and written by their
+// places: the library's `reverse` takes a part of the order by bare numbers.
+fn reverse(order: &mut [u16], from: Place, to: Place)
+    requires from_le_to { from.0 ≤ to.0 }
+    requires to_in_bounds { to.0 ≤ length order.old }
+    ensures { order.new ≡ take from.0 order.old ++ (reverse (between from.0 to.0 order.old) ++ drop to.0 order.old) }
+{
+    for n in 0..(to.0 - from.0) / 2 {
+        let i = from.0 + n;
+        let j = to.0 - 1 - n;
+        swap(order, Place(i), Place(j));
+    }
+}
 
 // How many places are asked for at once where stretches are long.
 const BLOCK: usize = 16;
@@ -98,7 +126,7 @@ fn reverse_stretches(level: u8, levels: &[u8], order: &mut [u16])
     while at < levels.len() {
         let start = stretch::<Below>(level, levels, Place(at));
         let end = stretch::<AtOrAbove>(level, levels, start);
-        order[start.0..end.0].reverse();
+        reverse(order, start, end);
         at = end.0;
     }
 }

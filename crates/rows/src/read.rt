@@ -1,6 +1,7 @@
 // Reads a row: its fields stand between semicolons, the words of a field between spaces, and the first word of a field
 // is its name. The word `L*3` stands for three L.
 ghost use Rattle.std.specs.Iterator.{IsFinite};
+ghost use Rattle.std.specs.Prelude.{◌≤◌, ◌≡◌, length};
 
 // A part as std's `split_inclusive` gives it, with no separator at its end.
 pub(crate) fn unended(part: &[u8], separator: u8) -> &[u8] {
@@ -44,10 +45,12 @@ fn repeated(part: &[u8]) -> (u8, usize) {
     (value(name), usize::from(times))
 }
 
-// Each value so many times, as far as there is room: the part of the room that is written.
+// Each value so many times, as far as there is room: the part of the room that is written, from its first place on.
 fn written<'a, T: Copy, I: Iterator<Item = (T, usize)>>(values: I, room: &'a mut [T]) -> &'a mut [T]
     requires can { I.can_next values }
     requires ends { IsFinite (I.remaining values) }
+    ensures front { result.ref_ptr ≡ room.entry.ref_ptr }
+    ensures within { length result.now ≤ length room.old }
 {
     let mut count = 0;
     for (value, times) in values {
@@ -63,14 +66,20 @@ fn written<'a, T: Copy, I: Iterator<Item = (T, usize)>>(values: I, room: &'a mut
 }
 
 // The bytes behind a field's name.
-pub(crate) fn bytes<'a>(field: &[u8], room: &'a mut [u8]) -> &'a mut [u8] {
+pub(crate) fn bytes<'a>(field: &[u8], room: &'a mut [u8]) -> &'a mut [u8]
+    ensures front { result.ref_ptr ≡ room.entry.ref_ptr }
+    ensures within { length result.now ≤ length room.old }
+{
     let list = behind(field, words::SPACE);
     let parts = list.split_inclusive(|b| *b == words::SPACE);
     written(parts.map(repeated), room)
 }
 
 // The numbers behind a field's name.
-pub(crate) fn numbers<'a>(field: &[u8], room: &'a mut [u16]) -> &'a mut [u16] {
+pub(crate) fn numbers<'a>(field: &[u8], room: &'a mut [u16]) -> &'a mut [u16]
+    ensures front { result.ref_ptr ≡ room.entry.ref_ptr }
+    ensures within { length result.now ≤ length room.old }
+{
     let list = behind(field, words::SPACE);
     let parts = list.split_inclusive(|b| *b == words::SPACE);
     written(

@@ -1,13 +1,15 @@
 -- Types that no rule asks for stay as they are, whatever stands before and behind them.
 -- Assumes nothing.
-use Prim.Native.Nat.{ℕ, zero, suc, ◌≤◌, ◌<◌}
+use Prim.Native.Nat.{ℕ, zero, suc, ◌+◌, ◌-◌, ◌≤◌, ◌<◌}
 use native.Mathlib.Omega.{arith}
-use mathlib.Core.Bool.{true, false}
+use mathlib.Core.Bool.{Bool, true, false}
 use mathlib.Core.Path.{◌≡◌, refl, sym, ap, ap₂, ◌∙◌}
 use mathlib.Core.List.{List, [], ◌∷◌, ◌++◌}
 use borrow.Author.Tests.{eqb-true}
 use lib.Dec.{eqb}
-use lib.ListN.{length, get_or, take, drop, take-append-drop}
+use lib.ListN.{length, get_or, take, drop, take-append-drop, drop_of_length-le}
+use lib.Seq.{drop-drop, length-take-le}
+use Rattle.std.proofs.lemmas.List.{drop-take}
 use Rattle.laws.specs.Choice.{head_or}
 use Rattle.rules.specs.Classes.{AL, EN, ES, ET, CS, NSM}
 use Rattle.laws.specs.Stretches.{after_stretch, stretches}
@@ -165,3 +167,31 @@ none_touched [] zero none = refl
 none_touched [] (suc from) none = refl
 none_touched (t ∷ ts) zero none = rw (none 0 (omega arith) (omega arith)) (none_touched ts 0 (λ k above below. none (suc k) (omega arith) (omega arith)))
 none_touched (t ∷ ts) (suc from) none = none_touched ts from (λ k above below. none (suc k) (omega arith) (omega arith))
+
+-- ---- whole blocks, and what stands before them
+-- none is in a list where none is in its front and none behind
+none_both : (test : ℕ → Bool) (xs : List ℕ) (k : ℕ) → any_of test (take k xs) ≡ false → any_of test (drop k xs) ≡ false → any_of test xs ≡ false
+unfolding any_of
+none_both test xs zero front rest = rest
+none_both test [] (suc k) front rest = refl
+none_both test (x ∷ xs) (suc k) front rest =
+    let first = none_first test x (take k xs) front in
+    rw first.0 (none_both test xs k first.1 rest)
+
+-- one block further towards the start
+pub block_more : (ts : List ℕ) (at end : ℕ) → at ≤ end → end ≤ length ts → any_of is_touched (take (end - at) (drop at ts)) ≡ false → any_of is_touched (drop end ts) ≡ false → any_of is_touched (drop at ts) ≡ false
+block_more ts at end h room here rest =
+    let to : at + (end - at) ≡ end = omega arith in
+    none_both is_touched (drop at ts) (end - at) here (rw (drop-drop (end - at) at ts, to) rest)
+
+pub before_blocks : (ts : List ℕ) (begin r : ℕ) → begin ≤ length ts → r ≤ length (take begin ts) → any_of is_touched (drop r (take begin ts)) ≡ false → any_of is_touched (drop begin ts) ≡ false → any_of is_touched (drop r ts) ≡ false
+before_blocks ts begin r room within here rest =
+    let below : r ≤ begin = omega (arith, length-take-le begin ts room) in
+    let to : r + (begin - r) ≡ begin = omega arith in
+    let part : drop r (take begin ts) ≡ take (begin - r) (drop r ts) = ap (λ (n : ℕ). drop r (take n ts)) (sym to) ∙ drop-take r (begin - r) ts in
+    block_more ts r begin below room (rw part at here) rest
+
+-- behind the last place there is nothing
+pub none_behind : (ts : List ℕ) (n : ℕ) → n ≡ length ts → any_of is_touched (drop n ts) ≡ false
+unfolding any_of
+none_behind ts n is = let none : drop n ts ≡ [] = drop_of_length-le ts (omega arith) in rw none

@@ -76,9 +76,29 @@ fn is_touched(t: u8) -> bool
     matches!(t, classes::AL | classes::EN..=classes::NSM)
 }
 
-// Where the last type that a rule asks for ends: behind it the run stays as it is.
+// How many types are asked for at once at a run's end.
+const BLOCK: usize = 64;
+
+// Where whole blocks begin, at the run's end, in which no rule asks for a type: letters and blanks alone are many blocks,
+// and each is read at once. Out of line, so that a short run does not pay for it.
+#[inline(never)]
+fn blocks_begin(types: &[u8]) -> usize
+    ensures upper_bound { result ≤ length types.now }
+    ensures types_value { any_of is_touched (drop result types.now) ≡ false }
+{
+    let count = types.len() / BLOCK;
+    for n in 0..count {
+        let end = types.len() - n * BLOCK;
+        if parts::any(&types[end - BLOCK..end], is_touched) {
+            return end;
+        }
+    }
+    types.len() - count * BLOCK
+}
+
+// Where the last type that a rule asks for ends.
 #[tactic(auto, using(crate::proofs::TouchedLaws::none_touched))]
-fn touched_end(types: &[u8]) -> usize
+fn last_touched(types: &[u8]) -> usize
     ensures upper_bound { result ≤ length types.now }
     ensures types_value { any_of is_touched (drop result types.now) ≡ false }
 {
@@ -86,6 +106,19 @@ fn touched_end(types: &[u8]) -> usize
         Some(last) => last + 1,
         None => 0,
     }
+}
+
+// The same: behind it the run stays as it is. Where whole blocks at the run's end have no such type, as letters and blanks
+// have none, the walk from type to type begins before them.
+fn touched_end(types: &[u8]) -> usize
+    ensures upper_bound { result ≤ length types.now }
+    ensures types_value { any_of is_touched (drop result types.now) ≡ false }
+{
+    if types.len() < BLOCK {
+        return last_touched(types);
+    }
+    let begin = blocks_begin(types);
+    last_touched(&types[..begin])
 }
 
 // The two passes, each lent its table.

@@ -41,7 +41,7 @@ pub fn change_w5(before: u8, next: u8) -> u8
 
 // The table of a pass, and the one strong type that makes a difference to it. Two entries say what becomes of a type:
 // 255 where it stays, or else 0 and the new type.
-#[derive(Drop)]
+#[derive(Clone, Copy, Debug, PartialEq, Eq)]
 pub struct Table {
     pub wanted: u8,
     pub entries: [u8; ENTRIES],

@@ -1,25 +1,30 @@
 -- How long the texts are at most, for whoever has to have room for them. Assumes nothing.
-use Prim.Native.Nat.{ℕ, zero, suc, ◌+◌, ◌*◌, ◌^◌, ◌≤◌, ◌<◌, suc-le-suc}
-use native.Mathlib.Nat.{suc-mul, le_of_suc-le-suc}
+use Prim.Native.Nat.{ℕ, zero, suc, ◌+◌, ◌*◌, ◌^◌, ◌/◌, ◌%◌, ◌≤◌, ◌<◌, suc-le-suc}
+use native.Mathlib.Nat.{suc-mul, pow-suc, le_of_suc-le-suc}
 use native.Mathlib.Omega.{arith}
 use mathlib.Core.Path.{◌≡◌}
 use mathlib.Core.Bool.{true, false}
 use mathlib.Core.List.{List, [], ◌∷◌, ◌++◌}
 use lib.Dec.{eqb, ltb}
 use lib.ListN.{length, get_or, length-append}
-use borrow.Author.Tests.{ltb-false}
+use borrow.Author.Tests.{ltb-true, ltb-false}
 use Rattle.rules.specs.Classes.{is_removed}
 use Rattle.rules.specs.Explicit.{removed_level}
 use Rattle.rules.specs.Refusals.{highest_resolved, sound, refuse, is_bad_level, first_bad_level}
 use Rattle.laws.proofs.Passes.{by_test}
 use Rattle.words.specs.Words.{space, line_feed}
-use Rattle.writing.specs.Text.{number_text, level_text, spaced, base_name, levels_name, order_name, refused_name, base_row, levels_row, order_row, refused_row}
-use Rattle.std.proofs.lemmas.Fmt.{length-decimal-le}
-use Rattle.writing.proofs.NumberLaws.{number_decimal}
+use Rattle.writing.specs.Text.{digit, number_text, level_text, spaced, base_name, levels_name, order_name, refused_name, base_row, levels_row, order_row, refused_row}
+use Rattle.writing.proofs.NumberLaws.{one_digit, more_digits}
 
 -- ---- a number below a power of ten has no more digits than the power says
-number_size : (k n : ℕ) → n < 10 ^ suc k → n < 2 ^ 64 → length (number_text n) ≤ suc k
-number_size k n h fits = rw (number_decimal n fits) (length-decimal-le (suc k) n (omega arith) h fits)
+pub number_size : (k n : ℕ) → n < 10 ^ suc k → length (number_text n) ≤ suc k
+number_size zero n h = rw (one_digit n h) (omega arith)
+number_size (suc k) n h =
+    by_test (ltb n 10)
+    (λ e. rw (one_digit n (ltb-true n 10 e)) (omega arith))
+    (λ e. let small : n < 10 ^ suc k * 10 = rw pow-suc at h in
+    let rest : length (number_text (n / 10)) ≤ suc k = number_size k (n / 10) (omega arith) in
+    rw (more_digits n (ltb-false n 10 e)) (omega (arith, length-append (number_text (n / 10)) (digit (n % 10) ∷ []))))
 
 -- ---- a level that Order does not refuse has two characters at most
 level_size : (c l : ℕ) → is_bad_level c l ≡ false → length (level_text l) ≤ 2
@@ -31,7 +36,7 @@ level_size c l e =
     (λ r. let z : true ≡ false = rw (r, d) at e in let n : ◌≡◌ {A = ℕ} 0 1 = cc in absurd (omega arith))
     (λ r. let t : ltb highest_resolved l ≡ false = rw r at e in
     let h : l ≤ highest_resolved = ltb-false highest_resolved l t in
-    rw d (number_size 1 l (omega arith) (omega arith))))
+    rw d (number_size 1 l (omega arith))))
 
 none_bad : (at c l : ℕ) (cs ls : List ℕ) → first_bad_level at (c ∷ cs) (l ∷ ls) ≡ sound → (is_bad_level c l ≡ false) × (first_bad_level (suc at) cs ls ≡ sound)
 unfolding first_bad_level
@@ -66,7 +71,7 @@ unfolding base_row
 base_row_size base h = omega (arith, row_size base_name number_text 1 (base ∷ []) (λ i g. fits i g))
   where
     fits : (i : ℕ) → i < 1 → length (number_text (get_or (base ∷ []) i 0)) ≤ 1
-    fits zero g = number_size 0 base (omega arith) (omega arith)
+    fits zero g = number_size 0 base (omega arith)
     fits (suc i) g = absurd (omega arith)
 
 -- lent the levels that Resolve wrote for the classes, one for each
@@ -76,13 +81,13 @@ levels_row_size cs ls e s = omega (arith, row_size levels_name level_text 2 ls (
 
 pub order_row_size : (ps : List ℕ) → ((i : ℕ) → i < length ps → get_or ps i 0 < 10000) → length (order_row ps) ≤ 6 + 5 * length ps
 unfolding order_row
-order_row_size ps low = omega (arith, row_size order_name number_text 4 ps (λ i h. let p : get_or ps i 0 < 10000 = low i h in number_size 3 (get_or ps i 0) (omega arith) (omega arith)))
+order_row_size ps low = omega (arith, row_size order_name number_text 4 ps (λ i h. let p : get_or ps i 0 < 10000 = low i h in number_size 3 (get_or ps i 0) (omega arith)))
 
 pub refused_row_size : (number place : ℕ) → number ≤ 10 → place < 10000 → length (refused_row number place) ≤ 20
 unfolding refused_row
 refused_row_size number place h g = omega (arith, row_size refused_name number_text 4 (number ∷ place ∷ []) (λ i l. fits i l))
   where
     fits : (i : ℕ) → i < 2 → length (number_text (get_or (number ∷ place ∷ []) i 0)) ≤ 4
-    fits zero l = number_size 3 number (omega arith) (omega arith)
-    fits (suc zero) l = number_size 3 place (omega arith) (omega arith)
+    fits zero l = number_size 3 number (omega arith)
+    fits (suc zero) l = number_size 3 place (omega arith)
     fits (suc (suc i)) l = absurd (omega arith)

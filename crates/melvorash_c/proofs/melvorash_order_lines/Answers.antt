@@ -1,7 +1,8 @@
 -- `melvorash_c::melvorash_order_lines` meets its contract: the job's own answer, in four numbers, and the order as the job leaves it.
 -- Assumes nothing.
+use native.Mathlib.Omega.{arith}
 use Rattle.melvorash_c.proofs.BoundaryLaws.{lines_exports}
 use Rattle.melvorash_c.proofs.melvorash_order_lines.Goals as goal
 
 pub returns : goal.returns
-returns c = lines_exports _ _ _ _ _ c.from.ensures c.order_lines-lines.ensures
+returns c = lines_exports _ _ _ _ _ (grind arith) c.order_lines-lines.ensures

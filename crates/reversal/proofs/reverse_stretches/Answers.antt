@@ -11,7 +11,7 @@ loop-at-init c = filled_begun _ _
 pub loop-at-preserved : goal.loop-at-preserved
 loop-at-preserved c =
     let args = c.args in
-    rw c.reverse.ensures.after
+    rw c.reverse.ensures
     (next args.level args.levels.now args.order.now (search rules) _ _ _ _ c.loop-at-test.true c.stretch-start.ensures c.stretch-end.ensures c.loop-at.invariant)
 
 pub returns : goal.returns

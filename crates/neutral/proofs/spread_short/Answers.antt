@@ -1,4 +1,4 @@
--- `neutral::spread_levels` meets its contract: it goes from stretch to stretch of neutrals. Assumes nothing.
+-- `neutral::spread_short` meets its contract: it goes from stretch to stretch of neutrals. Assumes nothing.
 use mathlib.Core.Path.{◌≡◌, refl}
 use mathlib.Core.Bool.{false}
 use native.Mathlib.Omega.{arith}
@@ -8,8 +8,8 @@ use Rattle.laws.proofs.Tests.{known}
 use Rattle.rules.specs.Classes.{is_neutral}
 use Rattle.neutral.specs.Finals.{final_level}
 use Rattle.neutral.proofs.SpreadLaws.{change, waiting_begun, waiting_next, waiting_over, waiting_filled, waiting_ended, waiting_done}
-use Rattle.neutral.proofs.spread_levels.Goals as goal
-use Rattle.neutral.proofs.spread_levels.Goals.{then-from-i, else-from-i}
+use Rattle.neutral.proofs.spread_short.Goals as goal
+use Rattle.neutral.proofs.spread_short.Goals.{then-from-i, else-from-i}
 
 pub loop-i-init : goal.loop-i-init
 loop-i-init c = waiting_begun _ c.requires
