@@ -45,8 +45,8 @@ module _ (levels_by : ℕ → List ℕ) (cs : List ℕ) (request fallback : ℕ)
 -- Resolve: what its checks give the work. They stand in the function's `using`, so its goals close with no step named, and an
 -- edit that puts a call between is refused by the goal itself.
 module _ (cs : List ℕ) (request fallback : ℕ) (levels : List ℕ) where
-  pub resolve_low : (base : ℕ) → sound ≡ checks_of_levels cs request fallback (length levels) → base ≡ base_of request fallback cs → base ≤ 1
-  resolve_low base e used =
+  pub resolve_base_low : (base : ℕ) → sound ≡ checks_of_levels cs request fallback (length levels) → base ≡ base_of request fallback cs → base ≤ 1
+  resolve_base_low base e used =
       let s = levels_sound cs request fallback (length levels) (sym e) in
       rw used (base_of_small request fallback cs s.asked s.instead)
 
@@ -56,4 +56,4 @@ module _ (cs : List ℕ) (request fallback : ℕ) (levels : List ℕ) where
   pub resolve_few : sound ≡ checks_of_levels cs request fallback (length levels) → length cs ≤ longest_paragraph
   resolve_few e = (levels_sound cs request fallback (length levels) (sym e)).few
 
-pub ruleset resolve_laws = (resolve_low, resolve_fits, resolve_few)
+pub ruleset resolve_laws = (resolve_base_low, resolve_fits, resolve_few)

@@ -139,8 +139,8 @@ led_to test ts at n within is =
     (ends, (span_end test ts at (at + n) within ends).1)
 
 -- from one stretch to the next there is a step
-pub goes_on : (types : List ℕ) (at from end : ℕ) → at < length types → from ≡ at + span is_other (drop at types) → end ≡ from + span is_neutral (drop from types) → at < end
-goes_on types at from end room led ends =
+pub stretch_goes_on : (types : List ℕ) (at from end : ℕ) → at < length types → from ≡ at + span is_other (drop at types) → end ≡ from + span is_neutral (drop from types) → at < end
+stretch_goes_on types at from end room led ends =
     by_test (is_neutral (get_or types at 0))
     (λ holds. by_test (is_other (get_or types at 0))
     (λ other. let on : at + span is_other (drop at types) ≡ at + 1 + span is_other (drop (at + 1) types) = span_further is_other types at room other in omega arith)

@@ -122,7 +122,7 @@ impl Finals {
     }
 }
 
-// N1, N2 and I in one pass from the types to the levels: where a stretch of neutrals ends, all of it is filled. W5 to
+// N1, N2 and I of a short run in one pass from the types to the levels: where a stretch of neutrals ends, all of it is filled. W5 to
 // W7 go the same way, but in place and with a strong type carried along: one function for both would be no plainer.
 fn spread_short(types: &[u8], finals: Finals, sides: Sides, levels: &mut [u8])
     requires { length types.now ≡ length levels.old }
@@ -166,7 +166,7 @@ fn fill_stretches(types: &[u8], finals: Finals, sides: Sides, levels: &mut [u8])
 {
     let mut before = sides.sor;
     let mut at = 0;
-    // A `while`: it goes from stretch to stretch, by one search for both of its ends.
+    // A `while`: it goes from stretch to stretch; `parts::leading` seeks where each begins and where it ends.
     while at < types.len() {
         let from = at + parts::leading(&types[at..], |t| !classes::is_neutral(t));
         let end = from + parts::leading(&types[from..], classes::is_neutral);
@@ -191,7 +191,7 @@ fn spread_long(types: &[u8], finals: Finals, sides: Sides, levels: &mut [u8])
 }
 
 // N1, N2 and I from the types to the levels. A long run goes by two passes, of which the first has no branch and the second
-// skips what is no neutral: plain letters take a third of the time that one pass takes. A short one would not pay for both.
+// skips what is no neutral; a short one would not pay for both.
 fn spread_levels(types: &[u8], finals: Finals, sides: Sides, levels: &mut [u8])
     requires { length types.now ≡ length levels.old }
     ensures { levels.new ≡ map (final_level finals) (N2 finals.own (N1 sides.sor sides.eor types.now)) }

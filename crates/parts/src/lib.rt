@@ -32,8 +32,8 @@ pub fn fill(part: &mut [u8], t: u8)
     part.fill(t);
 }
 
-// The rest of the longer one stays as it was. Place by place: the library's `copy_from_slice` would have whoever links the
-// archive bring a `memcpy`, where it asks for `memset` alone.
+// The rest of the longer one stays as it was. Byte by byte: the library's `copy_from_slice` would have whoever links the
+// archive bring a `memcpy`, where it asks for `memset` alone (`resolve::resolve_in` has the rest of this).
 pub fn copy(from: &[u8], to: &mut [u8])
     requires { length from.now ≤ length to.old }
     ensures { to.new ≡ over from.now to.old }

@@ -20,8 +20,9 @@ fn resolve_gathered(classes: &[u8], base: u8, levels: &mut [u8], types: &mut [u8
     scatter::put_back(classes, levels, count);
 }
 
-// Where nothing is removed there is nothing to gather and to put back. One function for rooms of both sizes: where the room is
-// known to be its own, the copy into it becomes a call of `memcpy`, which the archive does not ask for.
+// Where nothing is removed there is nothing to gather and to put back. One function, lent a room of either size: a function
+// whose own array the room is copies into it by a call of `memcpy`, which the archive does not ask for.
+#[inline(never)]
 fn resolve_in(classes: &[u8], base: u8, levels: &mut [u8], types: &mut [u8])
     requires { (base ≤ 1) × (length classes.now ≤ length levels.old) × (length classes.now ≤ length types.old) }
     ensures { levels.new ≡ over (resolved_levels base classes.now) levels.old }

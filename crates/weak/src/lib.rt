@@ -79,8 +79,8 @@ fn is_touched(t: u8) -> bool
 // How many types are asked for at once at a run's end.
 const BLOCK: usize = 64;
 
-// Where whole blocks begin, at the run's end, in which no rule asks for a type: letters and blanks alone are many blocks,
-// and each is read at once. Out of line, so that a short run does not pay for it.
+// Where, at a run's end, the whole blocks begin in which no rule asks for a type. Letters and blanks fill many blocks, and a
+// block is read at once. Out of line, so that a short run does not pay for it.
 #[inline(never)]
 fn blocks_begin(types: &[u8]) -> usize
     ensures upper_bound { result ≤ length types.now }

@@ -4,7 +4,7 @@ use native.Mathlib.Omega.{arith}
 use borrow.Author.Rules.{rules}
 use borrow.Author.Tests.{tests}
 use Rattle.rules.specs.Classes.{is_neutral}
-use Rattle.neutral.proofs.StretchLaws.{Stands, is_other, led_to, stands_begun, stretch_behind, stretch_at_once, stretch_filled, stands_done, goes_on}
+use Rattle.neutral.proofs.StretchLaws.{Stands, is_other, led_to, stands_begun, stretch_behind, stretch_at_once, stretch_filled, stands_done, stretch_goes_on}
 use Rattle.neutral.proofs.fill_stretches.Goals as goal
 use Rattle.neutral.proofs.fill_stretches.Goals.{then-at-from, else-at-from}
 
@@ -47,7 +47,7 @@ pub loop-at-smaller : goal.loop-at-smaller
 loop-at-smaller c =
     let from = led_to is_other c.args.types.now c.loop-at.at _ c.loop-at.invariant.written.within (c.leading.ensures is_other (λ t b h k. search (rules, tests))) in
     let end = led_to is_neutral c.args.types.now _ _ from.1 (c.leading-in-loop-at.ensures is_neutral (λ t b h k. k)) in
-    let on = goes_on c.args.types.now c.loop-at.at _ _ c.loop-at-test.true from.0 end.0 in
+    let on = stretch_goes_on c.args.types.now c.loop-at.at _ _ c.loop-at-test.true from.0 end.0 in
     omega (arith, end, on)
 
 pub loop-at-preserved : goal.loop-at-preserved
